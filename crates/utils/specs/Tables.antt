@@ -1,0 +1,27 @@
+-- A table of rows and columns, which lies in a list column after column.
+-- Assumes nothing.
+use Prim.Native.Nat.{ℕ, _+_, _*_}
+use mathlib.Core.Bool.{Bool, _&&_, cond}
+use mathlib.Core.List.{List}
+use lib.Dec.{eqb, ltb}
+use lib.ListN.{set}
+
+-- the place of entry (i, j) in a table of that many rows
+abbrev pub place : ℕ → ℕ → ℕ → ℕ
+place rows i j = i + j * rows
+
+-- whether a table of that many rows and columns has an entry (i, j)
+abbrev pub inside : ℕ → ℕ → ℕ → ℕ → Bool
+inside rows columns i j = ltb i rows && ltb j columns
+
+-- 3 where a list of that length is not rows × columns long, as a whole number, else 0
+abbrev pub misfit : ℕ → ℕ → ℕ → ℕ
+misfit rows columns len = cond (eqb len (rows * columns)) 0 3
+
+-- 5 where there is no entry (i, j), else 0
+abbrev pub outside : ℕ → ℕ → ℕ → ℕ → ℕ
+outside rows columns i j = cond (inside rows columns i j) 0 5
+
+-- the table with v at (i, j); as it was where there is no such entry
+abbrev pub written : {X : Type 0} → ℕ → ℕ → List X → ℕ → ℕ → X → List X
+written rows columns xs i j v = cond (inside rows columns i j) (set xs (place rows i j) v) xs
