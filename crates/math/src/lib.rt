@@ -1,0 +1,5 @@
+pub mod aabb;
+pub mod heights;
+pub mod scale;
+pub mod triangle;
+pub mod vector;
