@@ -1,6 +1,6 @@
 -- The number of each refusal, and what a call that may be refused answers.
 -- Assumes nothing.
-use Prim.Native.Nat.{ℕ}
+use Prim.Native.Nat.{ℕ, zero, suc}
 use mathlib.Core.Path.{_≡_}
 use Rattle.std.specs.declared.result.Result.{Result}
 use Rattle.std.specs.declared.result.Result.the-variants.{Ok, Err}
@@ -21,3 +21,8 @@ errorNumber BufferTooShort = 8
 abbrev pub Answers : {X : Type 0} → Result X HeightFieldError → ℕ → (X → Type 0) → Type 0
 Answers (Ok x) k P = (k ≡ 0) × P x
 Answers (Err e) k P = errorNumber e ≡ k
+
+-- the first refusal of two checks in turn: the second counts where the first refuses nothing
+abbrev pub orElse : ℕ → ℕ → ℕ
+orElse zero k = k
+orElse (suc n) k = suc n

@@ -1,0 +1,69 @@
+-- What a heightfield is, and what making and rescaling give.
+-- Assumes nothing.
+use Prim.Native.Nat.{ℕ, _-_}
+use lib.Ieee.{Float}
+use mathlib.Core.List.{List}
+use denote.Ref.{now}
+use Rattle.utils.specs.Errors.{orElse}
+use Rattle.utils.specs.Tables.{misfit}
+use Rattle.math.specs.Boxes.{boxOf}
+use Rattle.math.specs.Heights.{lowestOf, highestOf}
+use Rattle.math.specs.Scales.{scaleRefusal}
+use Rattle.math.specs.declared.aabb.Aabb.{Aabb}
+use Rattle.math.specs.declared.vector.Vector.{Vector}
+use Rattle.numbering.specs.Numbers.{sizeRefusal}
+use Rattle.shape.specs.declared.heightfield3.HeightField.{HeightField}
+
+-- rows and columns of cells, the heights of the points column after column, and what is kept of the heights and the scale
+pub record Grid : Type 0 where
+  pub rows : ℕ
+  pub columns : ℕ
+  pub heights : List Float
+  pub scale : Vector
+  pub lowest : Float
+  pub highest : Float
+  pub box : Aabb
+
+abbrev pub gridOf : HeightField → Grid
+gridOf g =
+    record {
+        rows = g .size .nrows;
+        columns = g .size .ncols;
+        heights = now (g .heights .data);
+        scale = g .scale;
+        lowest = g .lowest;
+        highest = g .highest;
+        box = g .aabb
+    }
+
+-- the grid of that many rows and columns of points
+abbrev pub made : ℕ → ℕ → List Float → Vector → Grid
+made rows columns heights scale =
+    record {
+        rows = rows - 1;
+        columns = columns - 1;
+        heights = heights;
+        scale = scale;
+        lowest = lowestOf heights;
+        highest = highestOf heights;
+        box = boxOf (lowestOf heights) (highestOf heights) scale
+    }
+
+-- the grid under another scale
+abbrev pub rescaled : Grid → Vector → Grid
+rescaled g scale =
+    record {
+        rows = g .rows;
+        columns = g .columns;
+        heights = g .heights;
+        scale = scale;
+        lowest = g .lowest;
+        highest = g .highest;
+        box = boxOf (g .lowest) (g .highest) scale
+    }
+
+-- the first check that making fails, given the lengths of the heights and of the status table: 1, 2, 3 or 4, 0 for none
+abbrev pub makingRefusal : ℕ → ℕ → ℕ → ℕ → Vector → ℕ
+makingRefusal rows columns points cells scale =
+    orElse (sizeRefusal rows columns)
+    (orElse (misfit rows columns points) (orElse (misfit (rows - 1) (columns - 1) cells) (scaleRefusal scale)))
