@@ -1,2 +1,4 @@
+pub mod FirstLaw
 pub mod Firsts
 pub mod Literals
+pub mod Order

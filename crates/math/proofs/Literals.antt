@@ -5,6 +5,7 @@ use lib.IntN.{pos, negsuc}
 use mathlib.Core.Bool.{false}
 use mathlib.Core.Path.{_≡_, refl}
 use Rattle.math.specs.Boxes.{half}
+use Rattle.math.specs.Lines.{one}
 
 pub half-literal : ofBits binary32 1056964608 ≡ half
 unfolding ofBits
@@ -23,3 +24,7 @@ max-scale-literal = refl
 pub nan-literal : ofBits binary32 2143289344 ≡ nan
 unfolding ofBits
 nan-literal = refl
+
+pub one-literal : ofBits binary32 1065353216 ≡ one
+unfolding ofBits
+one-literal = refl

@@ -1,3 +1,4 @@
 pub mod Boxes
 pub mod Heights
+pub mod Lines
 pub mod Scales

@@ -1,10 +1,11 @@
 ghost use lib.Ieee.{lt};
 ghost use mathlib.Core.Path.{_≡_};
-ghost use Rattle.math.specs.Heights.{firstOf, lowestOf, highestOf};
+ghost use Rattle.math.specs.Heights.{firstOf, lowestOf, highestOf, IsLowest, IsHighest};
 
 /// The lowest height that is not NaN, of equal ones the last; NaN if all are.
 pub fn lowest(heights: &[f32]) -> f32
-    ensures { λ r. ⌜ r ≡ lowestOf (now (heights .entry)) ⌝ }
+    ensures value { λ r. ⌜ r ≡ lowestOf (now (heights .entry)) ⌝ }
+    ensures least { λ r. ⌜ IsLowest (now (heights .entry)) r ⌝ }
 {
     let mut low = f32::NAN;
     for y in heights {
@@ -15,7 +16,8 @@ pub fn lowest(heights: &[f32]) -> f32
 
 /// The highest height that is not NaN, of equal ones the last; NaN if all are.
 pub fn highest(heights: &[f32]) -> f32
-    ensures { λ r. ⌜ r ≡ highestOf (now (heights .entry)) ⌝ }
+    ensures value { λ r. ⌜ r ≡ highestOf (now (heights .entry)) ⌝ }
+    ensures greatest { λ r. ⌜ IsHighest (now (heights .entry)) r ⌝ }
 {
     let mut high = f32::NAN;
     for y in heights {

@@ -1,1 +1,3 @@
 pub mod Grids
+pub mod LineRanges
+pub mod Tables

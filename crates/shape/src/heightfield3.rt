@@ -7,7 +7,10 @@ use math::vector::Vector;
 use numbering::size::GridSize;
 use utils::array2::Array2;
 
+pub mod flags;
+pub mod lines;
 pub mod making;
+pub mod numbers;
 
 /// A 3D heightfield over the caller's heights.
 ///

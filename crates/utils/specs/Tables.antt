@@ -4,7 +4,8 @@ use Prim.Native.Nat.{ℕ, _+_, _*_}
 use mathlib.Core.Bool.{Bool, _&&_, cond}
 use mathlib.Core.List.{List}
 use lib.Dec.{eqb, ltb}
-use lib.ListN.{set}
+use lib.ListN.{length, set}
+use Rattle.utils.specs.Errors.{orElse}
 
 -- the place of entry (i, j) in a table of that many rows
 abbrev pub place : ℕ → ℕ → ℕ → ℕ
@@ -22,6 +23,11 @@ misfit rows columns len = cond (eqb len (rows * columns)) 0 3
 abbrev pub outside : ℕ → ℕ → ℕ → ℕ → ℕ
 outside rows columns i j = cond (inside rows columns i j) 0 5
 
--- the table with v at (i, j); as it was where there is no such entry
+-- the first check that an entry of a list as a table fails: 3, then 5, 0 for none
+abbrev pub entryRefusal : ℕ → ℕ → ℕ → ℕ → ℕ → ℕ
+entryRefusal rows columns len i j = orElse (misfit rows columns len) (outside rows columns i j)
+
+-- the table with v at (i, j), and as it was where that is refused
 abbrev pub written : {X : Type 0} → ℕ → ℕ → List X → ℕ → ℕ → X → List X
-written rows columns xs i j v = cond (inside rows columns i j) (set xs (place rows i j) v) xs
+written rows columns xs i j v =
+    cond (eqb (entryRefusal rows columns (length xs) i j) 0) (set xs (place rows i j) v) xs

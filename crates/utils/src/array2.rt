@@ -6,8 +6,7 @@ ghost use Rattle.utils.specs.Tables.{place, outside};
 use crate::error::HeightFieldError;
 use std::marker::PhantomData;
 
-pub mod read;
-pub mod write;
+pub mod entries;
 
 /// A column-major 2D array over the caller's slice.
 #[derive(Drop)]
@@ -16,16 +15,6 @@ pub struct Array2<'d, T> {
     ncols: usize,
     data: &'d [T],
     lent: PhantomData<&'static ()>,
-    ghost fits: { length («data» .now) ≡ nrows * ncols },
-    ghost small: { nrows * ncols < 2 ^ 64 },
-}
-
-/// A column-major 2D array over the caller's slice, whose entries can be set.
-#[derive(Drop)]
-pub struct Array2Mut<'d, T> {
-    nrows: usize,
-    ncols: usize,
-    data: &'d mut [T],
     ghost fits: { length («data» .now) ≡ nrows * ncols },
     ghost small: { nrows * ncols < 2 ^ 64 },
 }

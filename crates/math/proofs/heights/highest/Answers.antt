@@ -1,4 +1,5 @@
 use lib.Ieee.{lt}
+use Rattle.math.proofs.FirstLaw.{highest-is}
 use Rattle.math.proofs.Firsts.{first-more, first-all}
 use Rattle.math.proofs.Literals.{nan-literal}
 use Rattle.math.proofs.heights.highest.Needs as need
@@ -13,4 +14,7 @@ loop-y-again c =
 
 pub returns : need.returns
 returns c =
-    first-all (λ a b. lt b a) (c .args .heights .now) (c .loop-y .y-index) (c .loop-y .high) (c .loop-y-test .left) (c .loop-y .inv)
+    let v =
+        first-all (λ a b. lt b a) (c .args .heights .now) (c .loop-y .y-index) (c .loop-y .high)
+        (c .loop-y-test .left) (c .loop-y .inv) in
+    record { value = v; greatest = highest-is (c .args .heights .now) (c .loop-y .high) v }

@@ -1,4 +1,5 @@
 use lib.Ieee.{lt}
+use Rattle.math.proofs.FirstLaw.{lowest-is}
 use Rattle.math.proofs.Firsts.{first-more, first-all}
 use Rattle.math.proofs.Literals.{nan-literal}
 use Rattle.math.proofs.heights.lowest.Needs as need
@@ -13,4 +14,7 @@ loop-y-again c =
 
 pub returns : need.returns
 returns c =
-    first-all lt (c .args .heights .now) (c .loop-y .y-index) (c .loop-y .low) (c .loop-y-test .left) (c .loop-y .inv)
+    let v =
+        first-all lt (c .args .heights .now) (c .loop-y .y-index) (c .loop-y .low)
+        (c .loop-y-test .left) (c .loop-y .inv) in
+    record { value = v; least = lowest-is (c .args .heights .now) (c .loop-y .low) v }

@@ -1,7 +1,7 @@
 ghost use mathlib.Core.Path.{_≡_};
 ghost use lib.ListN.{length, getD};
 ghost use Rattle.utils.specs.Errors.{Answers};
-ghost use Rattle.utils.specs.Tables.{place, misfit, outside};
+ghost use Rattle.utils.specs.Tables.{place, misfit, outside, entryRefusal, written};
 use super::Array2;
 use super::flat;
 use crate::error::HeightFieldError;
@@ -32,11 +32,24 @@ impl<'d, T> Array2<'d, T> {
     pub fn get(&self, i: usize, j: usize) -> Result<T, HeightFieldError>
     where
         T: Copy,
-        ensures { λ r. ⌜ Answers r (outside (now (self .entry) .nrows) (now (self .entry) .ncols) i j) (λ x. x ≡ getD (now (now (self .entry) .«data»)) (place (now (self .entry) .nrows) i j) x) ⌝ }
+        ensures { λ r. ⌜ Answers r (outside (now (self .entry) .nrows) (now (self .entry) .ncols) i j) (λ x. (d : T) → x ≡ getD (now (now (self .entry) .«data»)) (place (now (self .entry) .nrows) i j) d) ⌝ }
     {
         let k = flat(self.nrows, self.ncols, i, j)?;
         let data = self.data;
         Ok(data[k])
+    }
+
+    /// Sets the entry at the given row and column of the 2D array with the given dimensions that lies in `data`.
+    pub fn set(nrows: usize, ncols: usize, data: &mut [T], i: usize, j: usize, value: T) -> Result<(), HeightFieldError>
+    where
+        T: Copy,
+        ensures answer { λ r. ⌜ Answers r (entryRefusal nrows ncols (length (now («data» .entry))) i j) (λ _. Unit {0}) ⌝ }
+        ensures entries { λ _. ⌜ now («data» .exit) ≡ written nrows ncols (now («data» .entry)) i j value ⌝ }
+    {
+        Array2::new(nrows, ncols, &*data)?;
+        let k = flat(nrows, ncols, i, j)?;
+        data[k] = value;
+        Ok(())
     }
 
     /// Returns a reference to the underlying data.
