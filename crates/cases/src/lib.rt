@@ -1,0 +1,4 @@
+pub mod worked;
+
+#[cfg(test)]
+mod limits;
