@@ -1,4 +1,3 @@
-pub mod worked;
-
 #[cfg(test)]
 mod limits;
+pub mod worked;

@@ -28,11 +28,11 @@ each-more :
     → ((m : ℕ) → m < length xs → P m (getD xs m nan)) → P (length xs) z
     → (m : ℕ) → m < length (xs ++ z ∷ []) → P m (getD (xs ++ z ∷ []) m nan)
 each-more P xs z all here m h =
-    elim (cases-lt m (length xs))
-    [ inl l ↦ rw (getD-append-left xs (z ∷ []) nan m l) (all m l)
-    | inr l ↦
-        let e : length xs ≡ m = omega (arith, length-push xs z) in
-        rw (getD-push xs z nan m e) (subst (λ (k : ℕ). P k z) e here)
+    elim (cases-lt m (length xs)) [
+      | inl l ↦ rw (getD-append-left xs (z ∷ []) nan m l) (all m l)
+      | inr l ↦
+          let e : length xs ≡ m = omega (arith, length-push xs z) in
+          rw (getD-push xs z nan m e) (subst (λ (k : ℕ). P k z) e here)
     ]
 
 -- one more height z
@@ -41,26 +41,26 @@ module _ (before : Float → Float → Bool) (o : Orders before) (xs : List Floa
   kept :
       (y : Float) (k : ℕ) → FirstAt before xs y k → (isNan z ≡ false → before y z ≡ true)
       → FirstAt before (xs ++ z ∷ []) y k
-  kept y k f h = record
-    { within = simp length-push (omega arith)
-    ; there = getD-append-left xs (z ∷ []) nan k (f .within) ∙ f .there
-    ; number = f .number
-    ; none-before = each-more (λ m v. isNan v ≡ false → before v y ≡ false) xs z (f .none-before) (λ n. o .one-way y z (h n))
-    ; last = λ m l w.
-        each-more (λ i v. k < i → isNan v ≡ false → before y v ≡ true) xs z (λ i u g. f .last i g u) (λ g. h) m w l
-    }
+  kept y k f h = record {
+    within = simp length-push (omega arith);
+    there = getD-append-left xs (z ∷ []) nan k (f .within) ∙ f .there;
+    number = f .number;
+    none-before = each-more (λ m v. isNan v ≡ false → before v y ≡ false) xs z (f .none-before) (λ n. o .one-way y z (h n));
+    last = λ m l w.
+        each-more (λ i v. k < i → isNan v ≡ false → before y v ≡ true) xs z (λ i u g. f .last i g u) (λ g. h) m w l;
+  }
 
   -- z is the first where no number comes before it
   taken :
       isNan z ≡ false → ((m : ℕ) → m < length xs → isNan (getD xs m nan) ≡ false → before (getD xs m nan) z ≡ false)
       → FirstAt before (xs ++ z ∷ []) z (length xs)
-  taken n h = record
-    { within = simp length-push (omega arith)
-    ; there = getD-push xs z nan (length xs) refl
-    ; number = n
-    ; none-before = each-more (λ m v. isNan v ≡ false → before v z ≡ false) xs z h (λ v. o .itself z)
-    ; last = λ m l w. absurd (omega (arith, length-push xs z))
-    }
+  taken n h = record {
+    within = simp length-push (omega arith);
+    there = getD-push xs z nan (length xs) refl;
+    number = n;
+    none-before = each-more (λ m v. isNan v ≡ false → before v z ≡ false) xs z h (λ v. o .itself z);
+    last = λ m l w. absurd (omega (arith, length-push xs z));
+  }
 
   first-push : (best : Float) → IsFirst before xs best → IsFirst before (xs ++ z ∷ []) (firstOf before best z)
   first-push best (inl (e, none)) =
@@ -71,8 +71,11 @@ module _ (before : Float → Float → Bool) (o : Orders before) (xs : List Floa
   first-push best (inr (k, f)) =
       cond-both (before best z || isNan z) best z (IsFirst before (xs ++ z ∷ []))
       (λ h. inr (k, kept best k f (λ n. grind arith)))
-      (λ h. inr (length xs, taken (grind arith)
-          (λ m l n. o .through (getD xs m nan) best z (f .number) (f .none-before m l n) (grind arith))))
+      (λ h. inr (
+        length xs,
+        taken (grind arith)
+            (λ m l n. o .through (getD xs m nan) best z (f .number) (f .none-before m l n) (grind arith)),
+      ))
 
 module _ (before : Float → Float → Bool) (o : Orders before) where
   first-on :
@@ -92,9 +95,9 @@ lowest-is =
 pub highest-is : (ys : List Float) (y : Float) → y ≡ highestOf ys → IsHighest ys y
 highest-is =
     first-is (λ a b. lt b a)
-    (record
-      { after-nan = lt-nan-right
-      ; itself = lt-irrefl
-      ; one-way = λ x y. lt-one-way y x
-      ; through = λ x y z n h k. not-lt-trans z y x n k h
-      })
+    (record {
+      after-nan = lt-nan-right;
+      itself = lt-irrefl;
+      one-way = λ x y. lt-one-way y x;
+      through = λ x y z n h k. not-lt-trans z y x n k h;
+    })

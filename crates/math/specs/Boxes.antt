@@ -14,6 +14,6 @@ half = fin false 1 (negsuc 0)
 abbrev pub boxOf : Float → Float → Vector → Aabb
 boxOf lowest highest scale =
     record {
-        mins = record { x = neg (mul binary32 (scale .x) half); y = mul binary32 lowest (scale .y); z = neg (mul binary32 (scale .z) half) };
-        maxs = record { x = mul binary32 (scale .x) half; y = mul binary32 highest (scale .y); z = mul binary32 (scale .z) half }
+      mins = record { x = neg (mul binary32 (scale .x) half); y = mul binary32 lowest (scale .y); z = neg (mul binary32 (scale .z) half) };
+      maxs = record { x = mul binary32 (scale .x) half; y = mul binary32 highest (scale .y); z = mul binary32 (scale .z) half };
     }

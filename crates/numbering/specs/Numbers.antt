@@ -62,9 +62,9 @@ edgeNumber r c i j Diagonal = r * (c + 1) + (r + 1) * c + (i + j * r)
 abbrev pub vidsOf : ℕ → Bool → ℕ → ℕ → Bool → TriangleVids
 vidsOf r zigzag i j left =
     record {
-        a = cornerNumber r i j (corner zigzag left 0);
-        b = cornerNumber r i j (corner zigzag left 1);
-        c = cornerNumber r i j (corner zigzag left 2)
+      a = cornerNumber r i j (corner zigzag left 0);
+      b = cornerNumber r i j (corner zigzag left 1);
+      c = cornerNumber r i j (corner zigzag left 2);
     }
 
 -- the local numbers of a triangle's vertices and edges are 0, 1 and 2

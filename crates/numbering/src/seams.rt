@@ -5,5 +5,4 @@ ghost use Rattle.numbering.specs.Seams.{EachSeamCarriesOneNumber, EqualNumbers
 pub fn seam_numbers()
     ensures one_number { λ _. ⌜ EachSeamCarriesOneNumber ⌝ }
     ensures equal_numbers { λ _. ⌜ EqualNumbersJoinEqualPoints ⌝ }
-{
-}
+{}

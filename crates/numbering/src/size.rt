@@ -35,7 +35,10 @@ impl GridSize {
         if nrows > MAX_LINES || ncols > MAX_LINES || nrows * ncols > MAX_POINTS {
             return Err(HeightFieldError::TooManyPoints);
         }
-        Ok(GridSize { nrows: nrows - 1, ncols: ncols - 1 })
+        Ok(GridSize {
+            nrows: nrows - 1,
+            ncols: ncols - 1,
+        })
     }
 
     /// The number of rows of cells.

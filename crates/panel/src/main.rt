@@ -12,17 +12,42 @@ use utils::error::HeightFieldErrorError;
 
 /// The rows and columns of points of the scan.
 const ROWS: usize = 4;
+
 const COLUMNS: usize = 5;
 
 /// The heights of the scan in metres, one column of points after the other.
 const HEIGHTS: [f32; 20] = [
-    0.112, 0.1185, 0.121, 0.1195, 0.134, 0.142, 0.1465, 0.1435, 0.151, 0.1605, 0.166, 0.1625, 0.1425, 0.1515, 0.157, 0.1535, 0.119,
-    0.127, 0.1315, 0.129,
+    0.112,
+    0.1185,
+    0.121,
+    0.1195,
+    0.134,
+    0.142,
+    0.1465,
+    0.1435,
+    0.151,
+    0.1605,
+    0.166,
+    0.1625,
+    0.1425,
+    0.1515,
+    0.157,
+    0.1535,
+    0.119,
+    0.127,
+    0.1315,
+    0.129,
 ];
 
 fn main(rt: LibcRuntime) -> Result<(), AnyError> {
     let mut flags = [0xff; 12];
-    let mut grid = HeightField::new(ROWS, COLUMNS, &HEIGHTS, &mut flags, Vector::new(2.4, 1.0, 0.9))?;
+    let mut grid = HeightField::new(
+        ROWS,
+        COLUMNS,
+        &HEIGHTS,
+        &mut flags,
+        Vector::new(2.4, 1.0, 0.9),
+    )?;
     describe(&rt, &grid)?;
     trim(&rt, &grid, &mut flags)?;
     numbers(&rt, &grid, &flags)?;
@@ -35,14 +60,23 @@ fn main(rt: LibcRuntime) -> Result<(), AnyError> {
 /// Prints the size and the box of the grid.
 fn describe(rt: &LibcRuntime, grid: &HeightField<'_>) -> Result<(), AnyError> {
     let (rows, columns) = grid.num_cells_ij();
-    println!(rt, "The panel has {rows} rows and {columns} columns of cells.")?;
+    println!(
+        rt,
+        "The panel has {rows} rows and {columns} columns of cells."
+    )?;
     let aabb = grid.root_aabb();
     let (ax, ay, az) = (aabb.mins.x, aabb.mins.y, aabb.mins.z);
     let (bx, by, bz) = (aabb.maxs.x, aabb.maxs.y, aabb.maxs.z);
-    println!(rt, "Its box runs from ({ax}, {ay}, {az}) to ({bx}, {by}, {bz}).")?;
+    println!(
+        rt,
+        "Its box runs from ({ax}, {ay}, {az}) to ({bx}, {by}, {bz})."
+    )?;
     let (width, height) = (grid.cell_width(), grid.cell_height());
     let x = grid.x_at(1)?;
-    println!(rt, "A cell is {width} wide and {height} high; column 1 starts at x = {x}.")?;
+    println!(
+        rt,
+        "A cell is {width} wide and {height} high; column 1 starts at x = {x}."
+    )?;
     Ok(())
 }
 
@@ -52,7 +86,10 @@ fn trim(rt: &LibcRuntime, grid: &HeightField<'_>, flags: &mut [u8]) -> Result<()
     grid.set_cell_status(flags, 2, 3, HeightFieldCellStatus::CELL_REMOVED)?;
     let first = grid.cell_status(flags, 0, 0)?.bits();
     let last = grid.cell_status(flags, 2, 3)?.bits();
-    println!(rt, "Trimmed the left triangle of cell (0, 0) and all of cell (2, 3): their statuses are {first} and {last}.")?;
+    println!(
+        rt,
+        "Trimmed the left triangle of cell (0, 0) and all of cell (2, 3): their statuses are {first} and {last}."
+    )?;
     Ok(())
 }
 
@@ -60,10 +97,16 @@ fn trim(rt: &LibcRuntime, grid: &HeightField<'_>, flags: &mut [u8]) -> Result<()
 fn numbers(rt: &LibcRuntime, grid: &HeightField<'_>, flags: &[u8]) -> Result<(), AnyError> {
     let near = grid.convert_triangle_feature_id(flags, 1, 1, false, FeatureId::Edge(1))?;
     let far = grid.convert_triangle_feature_id(flags, 1, 2, true, FeatureId::Edge(0))?;
-    println!(rt, "The seam between cells (1, 1) and (1, 2) is {near:?} from the first and {far:?} from the second.")?;
+    println!(
+        rt,
+        "The seam between cells (1, 1) and (1, 2) is {near:?} from the first and {far:?} from the second."
+    )?;
     let front = grid.convert_triangle_feature_id(flags, 1, 2, true, FeatureId::Face(0))?;
     let back = grid.convert_triangle_feature_id(flags, 1, 2, true, FeatureId::Face(1))?;
-    println!(rt, "The left triangle of cell (1, 2) has the front {front:?} and the back {back:?}.")?;
+    println!(
+        rt,
+        "The left triangle of cell (1, 2) has the front {front:?} and the back {back:?}."
+    )?;
     if let Some(vids) = grid.triangle_vids_at_id(flags, 7)? {
         let (a, b, c) = (vids.a, vids.b, vids.c);
         println!(rt, "Triangle 7 joins the vertices {a}, {b} and {c}.")?;
@@ -75,15 +118,25 @@ fn numbers(rt: &LibcRuntime, grid: &HeightField<'_>, flags: &[u8]) -> Result<(),
 }
 
 /// Makes calls that are refused, and shows that nothing changed.
-fn refusals(rt: &LibcRuntime, grid: &mut HeightField<'_>, flags: &mut [u8]) -> Result<(), AnyError> {
+fn refusals(
+    rt: &LibcRuntime,
+    grid: &mut HeightField<'_>,
+    flags: &mut [u8],
+) -> Result<(), AnyError> {
     if let Err(e) = grid.set_cell_status(flags, 3, 0, HeightFieldCellStatus::CELL_REMOVED) {
         let number = e.number();
-        println!(rt, "Setting the status of cell (3, 0) is refused with {number}: {e}.")?;
+        println!(
+            rt,
+            "Setting the status of cell (3, 0) is refused with {number}: {e}."
+        )?;
     }
     if let Err(e) = grid.set_scale(Vector::new(2.5, 0.0, 1.0)) {
         let number = e.number();
         let kept = grid.scale().y;
-        println!(rt, "A scale of 0 along y is refused with {number}: {e}. It is still {kept}.")?;
+        println!(
+            rt,
+            "A scale of 0 along y is refused with {number}: {e}. It is still {kept}."
+        )?;
     }
     Ok(())
 }

@@ -27,39 +27,39 @@ pub record Grid : Type 0 where
 abbrev pub gridOf : HeightField → Grid
 gridOf g =
     record {
-        rows = g .size .nrows;
-        columns = g .size .ncols;
-        heights = now (g .heights .data);
-        scale = g .scale;
-        lowest = g .lowest;
-        highest = g .highest;
-        box = g .aabb
+      rows = g .size .nrows;
+      columns = g .size .ncols;
+      heights = now (g .heights .data);
+      scale = g .scale;
+      lowest = g .lowest;
+      highest = g .highest;
+      box = g .aabb;
     }
 
 -- the grid of that many rows and columns of points
 abbrev pub made : ℕ → ℕ → List Float → Vector → Grid
 made rows columns heights scale =
     record {
-        rows = rows - 1;
-        columns = columns - 1;
-        heights = heights;
-        scale = scale;
-        lowest = lowestOf heights;
-        highest = highestOf heights;
-        box = boxOf (lowestOf heights) (highestOf heights) scale
+      rows = rows - 1;
+      columns = columns - 1;
+      heights = heights;
+      scale = scale;
+      lowest = lowestOf heights;
+      highest = highestOf heights;
+      box = boxOf (lowestOf heights) (highestOf heights) scale;
     }
 
 -- the grid under another scale
 abbrev pub rescaled : Grid → Vector → Grid
 rescaled g scale =
     record {
-        rows = g .rows;
-        columns = g .columns;
-        heights = g .heights;
-        scale = scale;
-        lowest = g .lowest;
-        highest = g .highest;
-        box = boxOf (g .lowest) (g .highest) scale
+      rows = g .rows;
+      columns = g .columns;
+      heights = g .heights;
+      scale = scale;
+      lowest = g .lowest;
+      highest = g .highest;
+      box = boxOf (g .lowest) (g .highest) scale;
     }
 
 -- the first check that making fails, given the lengths of the heights and of the status table: 1, 2, 3 or 4, 0 for none

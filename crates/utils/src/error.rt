@@ -38,8 +38,10 @@ pub impl fmt::Display for HeightFieldError as HeightFieldErrorDisplay {
     fn fmt<W: fmt::Write>(&self, f: &mut fmt::Formatter<W>) -> fmt::Result {
         let text = match self {
             HeightFieldError::TooFewPoints => "fewer than two rows or columns of points",
-            HeightFieldError::TooManyPoints => "more rows, columns or points than a heightfield takes",
-            HeightFieldError::LengthMismatch => "a table whose length is not its rows times its columns",
+            HeightFieldError::TooManyPoints =>
+                "more rows, columns or points than a heightfield takes",
+            HeightFieldError::LengthMismatch =>
+                "a table whose length is not its rows times its columns",
             HeightFieldError::ScaleOutOfRange => "a scale that is NaN, below 2^-20 or above 2^20",
             HeightFieldError::IndexOutOfRange => "a cell, an entry or a line out of range",
             HeightFieldError::InvalidStatus => "a cell status above 7",

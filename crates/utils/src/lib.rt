@@ -1,2 +1,2 @@
-pub mod error;
 pub mod array2;
+pub mod error;

@@ -14,14 +14,14 @@ use utils::error::HeightFieldError;
 impl GridSize {
     /// The number of triangles, removed ones included.
     pub fn num_triangles(&self) -> usize
-        ensures { λ r. ⌜ r ≡ 2 * (now (self .entry) .nrows * now (self .entry) .ncols) ⌝ }
+        ensures { λ r. let s = now (self .entry) in ⌜ r ≡ 2 * (s .nrows * s .ncols) ⌝ }
     {
         self.nrows * self.ncols * 2
     }
 
     /// The number of the left or right triangle of the cell `(i, j)`.
     pub fn triangle_id(&self, i: usize, j: usize, left: bool) -> Result<u32, HeightFieldError>
-        ensures { λ r. ⌜ Answers r (outside (now (self .entry) .nrows) (now (self .entry) .ncols) i j) (λ n. n ≡ triangleNumber (now (self .entry) .nrows) (now (self .entry) .ncols) i j left) ⌝ }
+        ensures { λ r. let s = now (self .entry) in ⌜ Answers r (outside (s .nrows) (s .ncols) i j) (λ n. n ≡ triangleNumber (s .nrows) (s .ncols) i j left) ⌝ }
     {
         if i >= self.nrows || j >= self.ncols {
             return Err(HeightFieldError::IndexOutOfRange);
@@ -31,7 +31,7 @@ impl GridSize {
 
     /// The cell of a triangle, and whether it is the left one. The column is past the last for a number that no triangle has.
     pub fn split_triangle_id(&self, id: u32) -> (usize, usize, bool)
-        ensures { λ r. ⌜ r ≡ (rowOf (now (self .entry) .nrows) (now (self .entry) .ncols) id, columnOf (now (self .entry) .nrows) (now (self .entry) .ncols) id, isLeft (now (self .entry) .nrows) (now (self .entry) .ncols) id) ⌝ }
+        ensures { λ r. let s = now (self .entry) in ⌜ r ≡ (rowOf (s .nrows) (s .ncols) id, columnOf (s .nrows) (s .ncols) id, isLeft (s .nrows) (s .ncols) id) ⌝ }
     {
         let half = self.num_triangles() / 2;
         let id = id as usize;
@@ -43,8 +43,14 @@ impl GridSize {
     }
 
     /// The vertex numbers of the left or right triangle of the cell `(i, j)`.
-    pub fn triangle_vids(&self, zigzag: bool, i: usize, j: usize, left: bool) -> Result<TriangleVids, HeightFieldError>
-        ensures { λ r. ⌜ Answers r (outside (now (self .entry) .nrows) (now (self .entry) .ncols) i j) (λ v. v ≡ vidsOf (now (self .entry) .nrows) zigzag i j left) ⌝ }
+    pub fn triangle_vids(
+        &self,
+        zigzag: bool,
+        i: usize,
+        j: usize,
+        left: bool,
+    ) -> Result<TriangleVids, HeightFieldError>
+        ensures { λ r. let s = now (self .entry) in ⌜ Answers r (outside (s .nrows) (s .ncols) i j) (λ v. v ≡ vidsOf (s .nrows) zigzag i j left) ⌝ }
     {
         if i >= self.nrows || j >= self.ncols {
             return Err(HeightFieldError::IndexOutOfRange);
@@ -58,8 +64,15 @@ impl GridSize {
     }
 
     /// Converts the feature of the left or right triangle of the cell `(i, j)` into a feature of the whole heightfield.
-    pub fn convert_triangle_feature_id(&self, zigzag: bool, i: usize, j: usize, left: bool, fid: FeatureId) -> Result<FeatureId, HeightFieldError>
-        ensures { λ r. ⌜ Answers r (conversionRefusal (now (self .entry) .nrows) (now (self .entry) .ncols) i j fid) (λ f. f ≡ converted (now (self .entry) .nrows) (now (self .entry) .ncols) zigzag i j left fid) ⌝ }
+    pub fn convert_triangle_feature_id(
+        &self,
+        zigzag: bool,
+        i: usize,
+        j: usize,
+        left: bool,
+        fid: FeatureId,
+    ) -> Result<FeatureId, HeightFieldError>
+        ensures { λ r. let s = now (self .entry) in ⌜ Answers r (conversionRefusal (s .nrows) (s .ncols) i j fid) (λ f. f ≡ converted (s .nrows) (s .ncols) zigzag i j left fid) ⌝ }
     {
         if i >= self.nrows || j >= self.ncols {
             return Err(HeightFieldError::IndexOutOfRange);
@@ -87,7 +100,7 @@ impl GridSize {
 
     fn triangle_number(&self, i: usize, j: usize, left: bool) -> u32
         requires { ⌜ i < now self .nrows ⌝ ∗ ⌜ j < now self .ncols ⌝ }
-        ensures { λ r. ⌜ r ≡ triangleNumber (now (self .entry) .nrows) (now (self .entry) .ncols) i j left ⌝ }
+        ensures { λ r. let s = now (self .entry) in ⌜ r ≡ triangleNumber (s .nrows) (s .ncols) i j left ⌝ }
     {
         let tid = j * self.nrows + i;
         if left {
@@ -99,7 +112,7 @@ impl GridSize {
 
     fn face_number(&self, i: usize, j: usize, left: bool, front: bool) -> u32
         requires { ⌜ i < now self .nrows ⌝ ∗ ⌜ j < now self .ncols ⌝ }
-        ensures { λ r. ⌜ r ≡ faceNumber (now (self .entry) .nrows) (now (self .entry) .ncols) i j left front ⌝ }
+        ensures { λ r. let s = now (self .entry) in ⌜ r ≡ faceNumber (s .nrows) (s .ncols) i j left front ⌝ }
     {
         let tid = self.triangle_number(i, j, left);
         if front {
@@ -126,7 +139,7 @@ impl GridSize {
 
     fn edge_number(&self, i: usize, j: usize, side: Side) -> u32
         requires { ⌜ i < now self .nrows ⌝ ∗ ⌜ j < now self .ncols ⌝ }
-        ensures { λ r. ⌜ r ≡ edgeNumber (now (self .entry) .nrows) (now (self .entry) .ncols) i j side ⌝ }
+        ensures { λ r. let s = now (self .entry) in ⌜ r ≡ edgeNumber (s .nrows) (s .ncols) i j side ⌝ }
     {
         let hshift = self.nrows * (self.ncols + 1); // First horizontal line index.
         let dshift = hshift + (self.nrows + 1) * self.ncols; // First diagonal line index.

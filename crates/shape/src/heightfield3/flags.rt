@@ -9,8 +9,13 @@ use utils::error::HeightFieldError;
 
 impl HeightField<'_> {
     /// The status of the `(i, j)`-th cell.
-    pub fn cell_status(&self, flags: &[u8], i: usize, j: usize) -> Result<HeightFieldCellStatus, HeightFieldError>
-        ensures { λ r. ⌜ Answers r (statusRefusal (gridOf (now (self .entry)) .rows) (gridOf (now (self .entry)) .columns) (now (flags .entry)) i j) (λ s. s .0 ≡ byteAt (gridOf (now (self .entry)) .rows) (now (flags .entry)) i j) ⌝ }
+    pub fn cell_status(
+        &self,
+        flags: &[u8],
+        i: usize,
+        j: usize,
+    ) -> Result<HeightFieldCellStatus, HeightFieldError>
+        ensures { λ r. let g = gridOf (now (self .entry)) in ⌜ Answers r (statusRefusal (g .rows) (g .columns) (now (flags .entry)) i j) (λ s. s .0 ≡ byteAt (g .rows) (now (flags .entry)) i j) ⌝ }
     {
         let table = Array2::new(self.nrows(), self.ncols(), flags)?;
         let bits = table.get(i, j)?;
@@ -18,9 +23,15 @@ impl HeightField<'_> {
     }
 
     /// Set the status of the `(i, j)`-th cell.
-    pub fn set_cell_status(&self, flags: &mut [u8], i: usize, j: usize, status: HeightFieldCellStatus) -> Result<(), HeightFieldError>
-        ensures answer { λ r. ⌜ Answers r (settingRefusal (gridOf (now (self .entry)) .rows) (gridOf (now (self .entry)) .columns) (now (flags .entry)) i j (status .0)) (λ _. Unit {0}) ⌝ }
-        ensures table { λ _. ⌜ now (flags .exit) ≡ settingLeaves (gridOf (now (self .entry)) .rows) (gridOf (now (self .entry)) .columns) (now (flags .entry)) i j (status .0) ⌝ }
+    pub fn set_cell_status(
+        &self,
+        flags: &mut [u8],
+        i: usize,
+        j: usize,
+        status: HeightFieldCellStatus,
+    ) -> Result<(), HeightFieldError>
+        ensures answer { λ r. let g = gridOf (now (self .entry)) in ⌜ Answers r (settingRefusal (g .rows) (g .columns) (now (flags .entry)) i j (status .0)) (λ _. Unit {0}) ⌝ }
+        ensures table { λ _. let g = gridOf (now (self .entry)) in ⌜ now (flags .exit) ≡ settingLeaves (g .rows) (g .columns) (now (flags .entry)) i j (status .0) ⌝ }
     {
         self.cell_status(flags, i, j)?;
         if status.bits() > 7 {

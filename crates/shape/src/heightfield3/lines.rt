@@ -33,7 +33,7 @@ impl HeightField<'_> {
 
     /// The number of cells of this heightfield along each dimension.
     pub fn num_cells_ij(&self) -> (usize, usize)
-        ensures { λ r. ⌜ r ≡ (gridOf (now (self .entry)) .rows, gridOf (now (self .entry)) .columns) ⌝ }
+        ensures { λ r. let g = gridOf (now (self .entry)) in ⌜ r ≡ (g .rows, g .columns) ⌝ }
     {
         (self.nrows(), self.ncols())
     }
@@ -48,7 +48,7 @@ impl HeightField<'_> {
     /// The [`Aabb`] of this heightmap.
     pub fn root_aabb(&self) -> Aabb
         ensures kept { λ r. ⌜ r ≡ gridOf (now (self .entry)) .box ⌝ }
-        ensures value { λ r. ⌜ r ≡ boxOf (gridOf (now (self .entry)) .lowest) (gridOf (now (self .entry)) .highest) (gridOf (now (self .entry)) .scale) ⌝ }
+        ensures value { λ r. let g = gridOf (now (self .entry)) in ⌜ r ≡ boxOf (g .lowest) (g .highest) (g .scale) ⌝ }
     {
         self.aabb
     }
@@ -69,21 +69,21 @@ impl HeightField<'_> {
 
     /// The width (extent along its local `x` axis) of each cell of this heightmap, including the scale factor.
     pub fn cell_width(&self) -> f32
-        ensures { λ r. ⌜ r ≡ cellWidth (gridOf (now (self .entry)) .columns) (gridOf (now (self .entry)) .scale .x) ⌝ }
+        ensures { λ r. let g = gridOf (now (self .entry)) in ⌜ r ≡ cellWidth (g .columns) (g .scale .x) ⌝ }
     {
         self.unit_cell_width() * self.scale.x
     }
 
     /// The height (extent along its local `z` axis) of each cell of this heightmap, including the scale factor.
     pub fn cell_height(&self) -> f32
-        ensures { λ r. ⌜ r ≡ cellWidth (gridOf (now (self .entry)) .rows) (gridOf (now (self .entry)) .scale .z) ⌝ }
+        ensures { λ r. let g = gridOf (now (self .entry)) in ⌜ r ≡ cellWidth (g .rows) (g .scale .z) ⌝ }
     {
         self.unit_cell_height() * self.scale.z
     }
 
     /// The smallest x coordinate of the `j`-th column of this heightfield.
     pub fn x_at(&self, j: usize) -> Result<f32, HeightFieldError>
-        ensures { λ r. ⌜ Answers r (lineRefusal (gridOf (now (self .entry)) .columns) j) (λ x. x ≡ lineAt (gridOf (now (self .entry)) .columns) (pos j) (gridOf (now (self .entry)) .scale .x)) ⌝ }
+        ensures { λ r. let g = gridOf (now (self .entry)) in ⌜ Answers r (lineRefusal (g .columns) j) (λ x. x ≡ lineAt (g .columns) (pos j) (g .scale .x)) ⌝ }
     {
         if j > self.ncols() {
             return Err(HeightFieldError::IndexOutOfRange);
@@ -93,7 +93,7 @@ impl HeightField<'_> {
 
     /// The smallest z coordinate of the start of the `i`-th row of this heightfield.
     pub fn z_at(&self, i: usize) -> Result<f32, HeightFieldError>
-        ensures { λ r. ⌜ Answers r (lineRefusal (gridOf (now (self .entry)) .rows) i) (λ z. z ≡ lineAt (gridOf (now (self .entry)) .rows) (pos i) (gridOf (now (self .entry)) .scale .z)) ⌝ }
+        ensures { λ r. let g = gridOf (now (self .entry)) in ⌜ Answers r (lineRefusal (g .rows) i) (λ z. z ≡ lineAt (g .rows) (pos i) (g .scale .z)) ⌝ }
     {
         if i > self.nrows() {
             return Err(HeightFieldError::IndexOutOfRange);
@@ -103,7 +103,7 @@ impl HeightField<'_> {
 
     /// The smallest x coordinate of the `j`-th column of this heightfield, on either side of it too.
     pub fn signed_x_at(&self, j: isize) -> Result<f32, HeightFieldError>
-        ensures { λ r. ⌜ Answers r (signedLineRefusal j) (λ x. x ≡ lineAt (gridOf (now (self .entry)) .columns) j (gridOf (now (self .entry)) .scale .x)) ⌝ }
+        ensures { λ r. let g = gridOf (now (self .entry)) in ⌜ Answers r (signedLineRefusal j) (λ x. x ≡ lineAt (g .columns) j (g .scale .x)) ⌝ }
     {
         if j < -MAX_SIGNED_LINE || j > MAX_SIGNED_LINE {
             return Err(HeightFieldError::IndexOutOfRange);
@@ -113,7 +113,7 @@ impl HeightField<'_> {
 
     /// The smallest z coordinate of the start of the `i`-th row of this heightfield, on either side of it too.
     pub fn signed_z_at(&self, i: isize) -> Result<f32, HeightFieldError>
-        ensures { λ r. ⌜ Answers r (signedLineRefusal i) (λ z. z ≡ lineAt (gridOf (now (self .entry)) .rows) i (gridOf (now (self .entry)) .scale .z)) ⌝ }
+        ensures { λ r. let g = gridOf (now (self .entry)) in ⌜ Answers r (signedLineRefusal i) (λ z. z ≡ lineAt (g .rows) i (g .scale .z)) ⌝ }
     {
         if i < -MAX_SIGNED_LINE || i > MAX_SIGNED_LINE {
             return Err(HeightFieldError::IndexOutOfRange);

@@ -21,7 +21,13 @@ impl<'d> HeightField<'d> {
     /// The heights are specified in such a way that the row index `i` of the array advances
     /// grid coordinates along the `z` axis, and the column index `j` of the array advances
     /// grid coordinates along the `x` axis.
-    pub fn new(nrows: usize, ncols: usize, heights_zx: &'d [f32], flags: &mut [u8], scale: Vector) -> Result<HeightField<'d>, HeightFieldError>
+    pub fn new(
+        nrows: usize,
+        ncols: usize,
+        heights_zx: &'d [f32],
+        flags: &mut [u8],
+        scale: Vector,
+    ) -> Result<HeightField<'d>, HeightFieldError>
         ensures answer { λ r. ⌜ Answers r (makingRefusal nrows ncols (length (now («heights_zx» .entry))) (length (now (flags .entry))) scale) (λ g. gridOf g ≡ made nrows ncols (now («heights_zx» .entry)) scale) ⌝ }
         ensures cleared { λ _. ⌜ now (flags .exit) ≡ cond (eqb (makingRefusal nrows ncols (length (now («heights_zx» .entry))) (length (now (flags .entry))) scale) 0) (replicate (length (now (flags .entry))) 0) (now (flags .entry)) ⌝ }
     {
@@ -35,13 +41,20 @@ impl<'d> HeightField<'d> {
         let highest = heights::highest(heights_zx);
         let aabb = heightfield_aabb(lowest, highest, scale);
         clear(flags);
-        Ok(HeightField { heights, size, scale, lowest, highest, aabb })
+        Ok(HeightField {
+            heights,
+            size,
+            scale,
+            lowest,
+            highest,
+            aabb,
+        })
     }
 
     /// Sets the scale factor applied to this heightfield.
     pub fn set_scale(&mut self, new_scale: Vector) -> Result<(), HeightFieldError>
         ensures answer { λ r. ⌜ Answers r (scaleRefusal «new_scale») (λ _. Unit {0}) ⌝ }
-        ensures grid { λ _. ⌜ gridOf (now (self .exit)) ≡ cond (eqb (scaleRefusal «new_scale») 0) (rescaled (gridOf (now (self .entry))) «new_scale») (gridOf (now (self .entry))) ⌝ }
+        ensures grid { λ _. let g = gridOf (now (self .entry)) in ⌜ gridOf (now (self .exit)) ≡ cond (eqb (scaleRefusal «new_scale») 0) (rescaled g «new_scale») g ⌝ }
     {
         check_scale(new_scale)?;
         self.scale = new_scale;

@@ -14,8 +14,13 @@ use utils::error::HeightFieldError;
 
 impl HeightField<'_> {
     /// Gets the indices of the vertices of the (up to) two triangles for the cell (i, j).
-    pub fn triangles_vids_at(&self, flags: &[u8], i: usize, j: usize) -> Result<(Option<TriangleVids>, Option<TriangleVids>), HeightFieldError>
-        ensures { λ r. ⌜ Answers r (misfit (gridOf (now (self .entry)) .rows) (gridOf (now (self .entry)) .columns) (length (now (flags .entry)))) (λ v. v ≡ (vidsAt (gridOf (now (self .entry)) .rows) (gridOf (now (self .entry)) .columns) (now (flags .entry)) i j true, vidsAt (gridOf (now (self .entry)) .rows) (gridOf (now (self .entry)) .columns) (now (flags .entry)) i j false)) ⌝ }
+    pub fn triangles_vids_at(
+        &self,
+        flags: &[u8],
+        i: usize,
+        j: usize,
+    ) -> Result<(Option<TriangleVids>, Option<TriangleVids>), HeightFieldError>
+        ensures { λ r. let g = gridOf (now (self .entry)) in ⌜ Answers r (misfit (g .rows) (g .columns) (length (now (flags .entry)))) (λ v. v ≡ (vidsAt (g .rows) (g .columns) (now (flags .entry)) i j true, vidsAt (g .rows) (g .columns) (now (flags .entry)) i j false)) ⌝ }
     {
         let left = self.vids(flags, i, j, true)?;
         let right = self.vids(flags, i, j, false)?;
@@ -23,8 +28,12 @@ impl HeightField<'_> {
     }
 
     /// Gets the vertex indices of the triangle identified by `id`.
-    pub fn triangle_vids_at_id(&self, flags: &[u8], id: u32) -> Result<Option<TriangleVids>, HeightFieldError>
-        ensures { λ r. ⌜ Answers r (misfit (gridOf (now (self .entry)) .rows) (gridOf (now (self .entry)) .columns) (length (now (flags .entry)))) (λ v. v ≡ vidsById (gridOf (now (self .entry)) .rows) (gridOf (now (self .entry)) .columns) (now (flags .entry)) id) ⌝ }
+    pub fn triangle_vids_at_id(
+        &self,
+        flags: &[u8],
+        id: u32,
+    ) -> Result<Option<TriangleVids>, HeightFieldError>
+        ensures { λ r. let g = gridOf (now (self .entry)) in ⌜ Answers r (misfit (g .rows) (g .columns) (length (now (flags .entry)))) (λ v. v ≡ vidsById (g .rows) (g .columns) (now (flags .entry)) id) ⌝ }
     {
         let (i, j, left) = self.size.split_triangle_id(id);
         self.vids(flags, i, j, left)
@@ -32,15 +41,29 @@ impl HeightField<'_> {
 
     /// Converts the FeatureID of the left or right triangle at the cell `(i, j)` into a FeatureId
     /// of the whole heightfield.
-    pub fn convert_triangle_feature_id(&self, flags: &[u8], i: usize, j: usize, left: bool, fid: FeatureId) -> Result<FeatureId, HeightFieldError>
-        ensures { λ r. ⌜ Answers r (convertRefusal (gridOf (now (self .entry)) .rows) (gridOf (now (self .entry)) .columns) (now (flags .entry)) i j fid) (λ f. f ≡ convertedAt (gridOf (now (self .entry)) .rows) (gridOf (now (self .entry)) .columns) (now (flags .entry)) i j left fid) ⌝ }
+    pub fn convert_triangle_feature_id(
+        &self,
+        flags: &[u8],
+        i: usize,
+        j: usize,
+        left: bool,
+        fid: FeatureId,
+    ) -> Result<FeatureId, HeightFieldError>
+        ensures { λ r. let g = gridOf (now (self .entry)) in ⌜ Answers r (convertRefusal (g .rows) (g .columns) (now (flags .entry)) i j fid) (λ f. f ≡ convertedAt (g .rows) (g .columns) (now (flags .entry)) i j left fid) ⌝ }
     {
         let status = self.cell_status(flags, i, j)?;
-        self.size.convert_triangle_feature_id(status.is_zigzag(), i, j, left, fid)
+        self.size
+            .convert_triangle_feature_id(status.is_zigzag(), i, j, left, fid)
     }
 
-    fn vids(&self, flags: &[u8], i: usize, j: usize, left: bool) -> Result<Option<TriangleVids>, HeightFieldError>
-        ensures { λ r. ⌜ Answers r (misfit (gridOf (now (self .entry)) .rows) (gridOf (now (self .entry)) .columns) (length (now (flags .entry)))) (λ v. v ≡ vidsAt (gridOf (now (self .entry)) .rows) (gridOf (now (self .entry)) .columns) (now (flags .entry)) i j left) ⌝ }
+    fn vids(
+        &self,
+        flags: &[u8],
+        i: usize,
+        j: usize,
+        left: bool,
+    ) -> Result<Option<TriangleVids>, HeightFieldError>
+        ensures { λ r. let g = gridOf (now (self .entry)) in ⌜ Answers r (misfit (g .rows) (g .columns) (length (now (flags .entry)))) (λ v. v ≡ vidsAt (g .rows) (g .columns) (now (flags .entry)) i j left) ⌝ }
     {
         let table = Array2::new(self.nrows(), self.ncols(), flags)?;
         let Ok(bits) = table.get(i, j) else {

@@ -18,12 +18,17 @@ impl<'d, T> Array2<'d, T> {
         if data.len() != len {
             return Err(HeightFieldError::LengthMismatch);
         }
-        Ok(Array2 { nrows, ncols, data, lent: PhantomData })
+        Ok(Array2 {
+            nrows,
+            ncols,
+            data,
+            lent: PhantomData,
+        })
     }
 
     /// Computes the flat index for the given row and column.
     pub fn flat_index(&self, i: usize, j: usize) -> Result<usize, HeightFieldError>
-        ensures { λ r. ⌜ Answers r (outside (now (self .entry) .nrows) (now (self .entry) .ncols) i j) (λ k. k ≡ place (now (self .entry) .nrows) i j) ⌝ }
+        ensures { λ r. let a = now (self .entry) in ⌜ Answers r (outside (a .nrows) (a .ncols) i j) (λ k. k ≡ place (a .nrows) i j) ⌝ }
     {
         flat(self.nrows, self.ncols, i, j)
     }
@@ -32,7 +37,7 @@ impl<'d, T> Array2<'d, T> {
     pub fn get(&self, i: usize, j: usize) -> Result<T, HeightFieldError>
     where
         T: Copy,
-        ensures { λ r. ⌜ Answers r (outside (now (self .entry) .nrows) (now (self .entry) .ncols) i j) (λ x. (d : T) → x ≡ getD (now (now (self .entry) .«data»)) (place (now (self .entry) .nrows) i j) d) ⌝ }
+        ensures { λ r. let a = now (self .entry) in ⌜ Answers r (outside (a .nrows) (a .ncols) i j) (λ x. (d : T) → x ≡ getD (now (a .«data»)) (place (a .nrows) i j) d) ⌝ }
     {
         let k = flat(self.nrows, self.ncols, i, j)?;
         let data = self.data;
@@ -40,7 +45,14 @@ impl<'d, T> Array2<'d, T> {
     }
 
     /// Sets the entry at the given row and column of the 2D array with the given dimensions that lies in `data`.
-    pub fn set(nrows: usize, ncols: usize, data: &mut [T], i: usize, j: usize, value: T) -> Result<(), HeightFieldError>
+    pub fn set(
+        nrows: usize,
+        ncols: usize,
+        data: &mut [T],
+        i: usize,
+        j: usize,
+        value: T,
+    ) -> Result<(), HeightFieldError>
     where
         T: Copy,
         ensures answer { λ r. ⌜ Answers r (entryRefusal nrows ncols (length (now («data» .entry))) i j) (λ _. Unit {0}) ⌝ }

@@ -4,12 +4,12 @@ use Rattle.cases.proofs.worked.worked_cases.Needs as need
 pub returns : need.returns
 returns c =
     record {
-        left-triangle = refl;
-        right-triangle = refl;
-        plain-left = refl;
-        plain-right = refl;
-        zigzag-left = refl;
-        zigzag-right = refl;
-        front = refl;
-        back = refl
+      left-triangle = refl;
+      right-triangle = refl;
+      plain-left = refl;
+      plain-right = refl;
+      zigzag-left = refl;
+      zigzag-right = refl;
+      front = refl;
+      back = refl;
     }

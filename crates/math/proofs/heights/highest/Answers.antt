@@ -15,6 +15,6 @@ loop-y-again c =
 pub returns : need.returns
 returns c =
     let v =
-        first-all (λ a b. lt b a) (c .args .heights .now) (c .loop-y .y-index) (c .loop-y .high)
-        (c .loop-y-test .left) (c .loop-y .inv) in
+    first-all (λ a b. lt b a) (c .args .heights .now) (c .loop-y .y-index) (c .loop-y .high)
+    (c .loop-y-test .left) (c .loop-y .inv) in
     record { value = v; greatest = highest-is (c .args .heights .now) (c .loop-y .high) v }

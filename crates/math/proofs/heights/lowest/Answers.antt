@@ -15,6 +15,6 @@ loop-y-again c =
 pub returns : need.returns
 returns c =
     let v =
-        first-all lt (c .args .heights .now) (c .loop-y .y-index) (c .loop-y .low)
-        (c .loop-y-test .left) (c .loop-y .inv) in
+    first-all lt (c .args .heights .now) (c .loop-y .y-index) (c .loop-y .low)
+    (c .loop-y-test .left) (c .loop-y .inv) in
     record { value = v; least = lowest-is (c .args .heights .now) (c .loop-y .low) v }

@@ -7,9 +7,9 @@ pub cast-result : need.cast-result
 cast-result c =
     let below = cell-lt (c .args .self .now .nrows) (c .args .self .now .ncols) (c .args .i) (c .args .j) (c .pre .0) (c .pre .1) in
     elim (c .match-side .came) [
-        in-Left w ↦ omega (arith, w .id-is)
-        | in-Right w ↦ omega (arith, w .id-is)
-        | in-Top w ↦ omega (arith, w .id-is)
-        | in-Bottom w ↦ omega (arith, w .id-is)
-        | in-Diagonal w ↦ omega (arith, w .id-is)
+      | in-Left w ↦ omega (arith, w .id-is)
+      | in-Right w ↦ omega (arith, w .id-is)
+      | in-Top w ↦ omega (arith, w .id-is)
+      | in-Bottom w ↦ omega (arith, w .id-is)
+      | in-Diagonal w ↦ omega (arith, w .id-is)
     ]

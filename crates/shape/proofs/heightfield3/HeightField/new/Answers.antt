@@ -15,7 +15,7 @@ pub returns-in-Break-check-scale : need.returns-in-Break-check-scale
 returns-in-Break-check-scale c =
     let fits : misfit (c .args .nrows - 1) (c .args .ncols - 1) (length (c .args .flags .now)) ≡ 0 = search needs in
     let decided = scale-decides (c .args .nrows) (c .args .ncols) (length (c .args .heights-zx .now)) (length (c .args .flags .now))
-        (c .args .scale) (c .in-Continue-size .ensures tt .0) (c .in-Continue-heights .ensures tt .0) fits in
+    (c .args .scale) (c .in-Continue-size .ensures tt .0) (c .in-Continue-heights .ensures tt .0) fits in
     let number = c .in-Break-check-scale .ensures tt ∙ sym decided in
     let p = err-from-errBy (c .from-residual-in-Break-check-scale .result) (c .from-residual-in-Break-check-scale .ensures .1) in
     rw (p .1, p .2) (record { answer = number; cleared = rw (refused (c .in-Break-check-scale .field-0 .0) _ number) refl })
