@@ -1,14 +1,9 @@
 -- The box that a heightfield fills. Each operation on floats is rounded once.
 -- Assumes nothing.
-use lib.Ieee.{Float, fin, binary32, mul, neg}
-use lib.IntN.{negsuc}
-use mathlib.Core.Bool.{false}
+use lib.Ieee.{Float, binary32, mul, neg}
+use Rattle.math.specs.Constants.{half}
 use Rattle.math.specs.declared.vector.Vector.{Vector}
 use Rattle.math.specs.declared.aabb.Aabb.{Aabb}
-
--- one half
-abbrev pub half : Float
-half = fin false 1 (negsuc 0)
 
 -- from half the scale below 0 to half above it along x and z, and from the lowest to the highest height, scaled, along y
 abbrev pub boxOf : Float → Float → Vector → Aabb

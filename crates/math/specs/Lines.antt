@@ -1,13 +1,9 @@
 -- The widths of cells and the lines between them, along an axis with n cells. Each operation is rounded once.
 -- Assumes nothing.
 use Prim.Native.Nat.{ℕ}
-use lib.Ieee.{Float, fin, binary32, add, mul, div, neg, ofInt}
+use lib.Ieee.{Float, binary32, add, mul, div, neg, ofInt}
 use lib.IntN.{ℤ, pos}
-use mathlib.Core.Bool.{false}
-use Rattle.math.specs.Boxes.{half}
-
-abbrev pub one : Float
-one = fin false 1 (pos 0)
+use Rattle.math.specs.Constants.{half, one}
 
 -- 1 / n
 abbrev pub unitWidth : Float → Float

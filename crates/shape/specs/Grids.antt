@@ -1,8 +1,11 @@
 -- What a heightfield is, and what making and rescaling give.
 -- Assumes nothing.
 use Prim.Native.Nat.{ℕ, _-_}
+use lib.Dec.{eqb}
 use lib.Ieee.{Float}
+use mathlib.Core.Bool.{cond}
 use mathlib.Core.List.{List}
+use mathlib.Core.Path.{_≡_}
 use denote.Ref.{now}
 use Rattle.utils.specs.Errors.{orElse}
 use Rattle.utils.specs.Tables.{misfit}
@@ -67,3 +70,13 @@ abbrev pub makingRefusal : ℕ → ℕ → ℕ → ℕ → Vector → ℕ
 makingRefusal rows columns points cells scale =
     orElse (sizeRefusal rows columns)
     (orElse (misfit rows columns points) (orElse (misfit (rows - 1) (columns - 1) cells) (scaleRefusal scale)))
+
+-- the grid after a rescaling: as it was where the scale is refused
+abbrev pub rescalingLeaves : Grid → Vector → Grid
+rescalingLeaves g scale = cond (eqb (scaleRefusal scale) 0) (rescaled g scale) g
+
+-- rescaling a grid gives what making it under the new scale gives
+abbrev pub RescalingIsMaking : Type 0
+RescalingIsMaking =
+    (rows columns : ℕ) (heights : List Float) (old new : Vector)
+    → rescaled (made rows columns heights old) new ≡ made rows columns heights new

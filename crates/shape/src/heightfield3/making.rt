@@ -4,7 +4,7 @@ ghost use lib.Dec.{eqb};
 ghost use lib.ListN.{length, replicate};
 ghost use Rattle.utils.specs.Errors.{Answers};
 ghost use Rattle.math.specs.Scales.{scaleRefusal};
-ghost use Rattle.shape.specs.Grids.{gridOf, made, rescaled, makingRefusal};
+ghost use Rattle.shape.specs.Grids.{gridOf, made, makingRefusal, rescalingLeaves, RescalingIsMaking};
 use super::HeightField;
 use math::aabb::heightfield_aabb;
 use math::heights;
@@ -54,7 +54,7 @@ impl<'d> HeightField<'d> {
     /// Sets the scale factor applied to this heightfield.
     pub fn set_scale(&mut self, new_scale: Vector) -> Result<(), HeightFieldError>
         ensures answer { λ r. ⌜ Answers r (scaleRefusal «new_scale») (λ _. Unit {0}) ⌝ }
-        ensures grid { λ _. let g = gridOf (now (self .entry)) in ⌜ gridOf (now (self .exit)) ≡ cond (eqb (scaleRefusal «new_scale») 0) (rescaled g «new_scale») g ⌝ }
+        ensures grid { λ _. ⌜ gridOf (now (self .exit)) ≡ rescalingLeaves (gridOf (now (self .entry))) «new_scale» ⌝ }
     {
         check_scale(new_scale)?;
         self.scale = new_scale;
@@ -63,6 +63,12 @@ impl<'d> HeightField<'d> {
     }
 }
 
+/// Rescaling a heightfield gives what making it under the new scale gives. Nothing is computed: the contract is the statement.
+pub fn rescaling_is_making()
+    ensures { λ _. ⌜ RescalingIsMaking ⌝ }
+{}
+
+/// Sets every cell status to 0.
 fn clear(flags: &mut [u8])
     ensures { λ _. ⌜ now (flags .exit) ≡ replicate (length (now (flags .entry))) 0 ⌝ }
 {

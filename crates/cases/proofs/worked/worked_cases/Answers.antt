@@ -1,9 +1,12 @@
 use mathlib.Core.Path.{refl}
+use Rattle.math.proofs.Literals.{half-is, one-is, min-scale-is, max-scale-is}
 use Rattle.cases.proofs.worked.worked_cases.Needs as need
 
 pub returns : need.returns
 returns c =
     record {
+      constants = (half-is, one-is);
+      scales = (min-scale-is, max-scale-is);
       left-triangle = refl;
       right-triangle = refl;
       plain-left = refl;
