@@ -10,8 +10,8 @@ use mathlib.Core.Path.{_≡_}
 use Rattle.utils.specs.Tables.{place}
 use Rattle.math.specs.Constants.{half, one, minScale, maxScale}
 use Rattle.numbering.specs.Numbers.{triangleNumber}
-use Rattle.numbering.specs.declared.feature_id.FeatureId.{FeatureId}
-use Rattle.numbering.specs.declared.feature_id.FeatureId.the-variants.{Edge, Face}
+use Rattle.cells.specs.declared.feature_id.FeatureId.{FeatureId}
+use Rattle.cells.specs.declared.feature_id.FeatureId.the-variants.{Edge, Face}
 use Rattle.shape.specs.Tables.{convertedAt}
 
 -- 3 rows and 4 columns of points, so 2 rows and 3 columns of cells, all plain; and the same with cell (1, 2) zigzag

@@ -1,8 +1,8 @@
 //! The limits of the calls, run.
+use cells::status::HeightFieldCellStatus;
 use math::scale::check_scale;
 use math::vector::Vector;
 use numbering::size::GridSize;
-use numbering::status::HeightFieldCellStatus;
 use shape::heightfield3::HeightField;
 use std::test::*;
 use utils::error::HeightFieldError;

@@ -13,13 +13,13 @@ use Rattle.std.proofs.shelf.Bits.{div-mul-add, mod-mul-add}
 use Rattle.std.proofs.shelf.Ways.{tells}
 use Rattle.utils.specs.Tables.{place}
 use Rattle.numbering.proofs.Bounds.{cell-lt}
-use Rattle.numbering.specs.Cells.{rowsPast, columnsPast, corner, side}
+use Rattle.cells.specs.Cells.{rowsPast, columnsPast, corner, side}
 use Rattle.numbering.specs.Numbers.{edgeNumber}
 use Rattle.numbering.specs.Seams.{Point, TriangleSide, zigzagAt, pointAt, SamePair, Joins, ConvertsTo}
 use Rattle.numbering.specs.Seams.{EachSeamCarriesOneNumber, EqualNumbersJoinEqualPoints}
-use Rattle.numbering.specs.Statuses.{zigzag}
-use Rattle.numbering.specs.declared.cell.Side.{Side}
-use Rattle.numbering.specs.declared.cell.Side.the-variants.{Left, Right, Top, Bottom, Diagonal}
+use Rattle.cells.specs.Statuses.{zigzag}
+use Rattle.cells.specs.declared.cell.Side.{Side}
+use Rattle.cells.specs.declared.cell.Side.the-variants.{Left, Right, Top, Bottom, Diagonal}
 
 -- the two points that a side of the cell (i, j) joins, by whether the cell has the zigzag pattern
 abbrev ends : Bool → ℕ → ℕ → Side → Point × Point

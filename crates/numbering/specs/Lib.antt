@@ -1,4 +1,2 @@
-pub mod Cells
 pub mod Numbers
 pub mod Seams
-pub mod Statuses

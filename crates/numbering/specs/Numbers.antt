@@ -5,13 +5,13 @@ use Prim.Native.Nat.{ℕ, _+_, _-_, _*_, _/_, _%_, _^_}
 use mathlib.Core.Bool.{Bool, true, false, _||_, _&&_, cond}
 use lib.Dec.{ltb, eqb}
 use Rattle.utils.specs.Tables.{inside}
-use Rattle.numbering.specs.Cells.{rowsPast, columnsPast, corner, side}
-use Rattle.numbering.specs.declared.cell.Corner.{Corner}
-use Rattle.numbering.specs.declared.cell.Side.{Side}
-use Rattle.numbering.specs.declared.cell.Side.the-variants.{Left, Right, Top, Bottom, Diagonal}
-use Rattle.numbering.specs.declared.feature_id.FeatureId.{FeatureId}
-use Rattle.numbering.specs.declared.feature_id.FeatureId.the-variants.{Vertex, Edge, Face, Unknown}
-use Rattle.numbering.specs.declared.vids.TriangleVids.{TriangleVids}
+use Rattle.cells.specs.Cells.{rowsPast, columnsPast, corner, side}
+use Rattle.cells.specs.declared.cell.Corner.{Corner}
+use Rattle.cells.specs.declared.cell.Side.{Side}
+use Rattle.cells.specs.declared.cell.Side.the-variants.{Left, Right, Top, Bottom, Diagonal}
+use Rattle.cells.specs.declared.feature_id.FeatureId.{FeatureId}
+use Rattle.cells.specs.declared.feature_id.FeatureId.the-variants.{Vertex, Edge, Face, Unknown}
+use Rattle.cells.specs.declared.vids.TriangleVids.{TriangleVids}
 
 -- the first check that a grid of that many rows and columns of points fails: 1 for too few, 2 for too many, 0 for none
 abbrev pub sizeRefusal : ℕ → ℕ → ℕ

@@ -8,11 +8,11 @@ use mathlib.Core.Logic.{_⊎_}
 use mathlib.Core.Path.{_≡_}
 use lib.ListN.{getD}
 use Rattle.utils.specs.Tables.{place}
-use Rattle.numbering.specs.Cells.{rowsPast, columnsPast, corner}
+use Rattle.cells.specs.Cells.{rowsPast, columnsPast, corner}
 use Rattle.numbering.specs.Numbers.{converted}
-use Rattle.numbering.specs.Statuses.{zigzag}
-use Rattle.numbering.specs.declared.cell.Corner.{Corner}
-use Rattle.numbering.specs.declared.feature_id.FeatureId.the-variants.{Edge}
+use Rattle.cells.specs.Statuses.{zigzag}
+use Rattle.cells.specs.declared.cell.Corner.{Corner}
+use Rattle.cells.specs.declared.feature_id.FeatureId.the-variants.{Edge}
 
 -- the row and the column of a grid point
 abbrev pub Point : Type 0

@@ -1,8 +1,8 @@
 //! One scanned hull panel from beginning to end: made, trimmed, numbered, rescaled, and a call refused.
+use cells::feature_id::FeatureId;
+use cells::feature_id::FeatureIdDebug;
+use cells::status::HeightFieldCellStatus;
 use math::vector::Vector;
-use numbering::feature_id::FeatureId;
-use numbering::feature_id::FeatureIdDebug;
-use numbering::status::HeightFieldCellStatus;
 use shape::heightfield3::HeightField;
 use std::error::AnyError;
 use utils::error::HeightFieldError;

@@ -16,9 +16,9 @@ use Rattle.utils.specs.Errors.{errorNumber, Answers, orElse}
 use Rattle.utils.specs.Tables.{inside, misfit, outside}
 use Rattle.utils.specs.declared.error.HeightFieldError.{HeightFieldError}
 use Rattle.numbering.specs.Numbers.{vidsOf, localNumber, conversionRefusal, converted}
-use Rattle.numbering.specs.Statuses.{zigzag, removed}
-use Rattle.numbering.specs.declared.feature_id.FeatureId.{FeatureId}
-use Rattle.numbering.specs.declared.vids.TriangleVids.{TriangleVids}
+use Rattle.cells.specs.Statuses.{zigzag, removed}
+use Rattle.cells.specs.declared.feature_id.FeatureId.{FeatureId}
+use Rattle.cells.specs.declared.vids.TriangleVids.{TriangleVids}
 use Rattle.shape.specs.Tables.{byteAt, statusRefusal, vidsAt, convertRefusal, convertedAt}
 
 -- where two checks in turn refuse nothing, neither does the first

@@ -10,9 +10,9 @@ use Rattle.std.specs.declared.option.Option.the-variants.{Some, None}
 use Rattle.utils.specs.Errors.{orElse}
 use Rattle.utils.specs.Tables.{place, inside, misfit, entryRefusal}
 use Rattle.numbering.specs.Numbers.{vidsOf, rowOf, columnOf, isLeft, conversionRefusal, converted}
-use Rattle.numbering.specs.Statuses.{zigzag, removed}
-use Rattle.numbering.specs.declared.feature_id.FeatureId.{FeatureId}
-use Rattle.numbering.specs.declared.vids.TriangleVids.{TriangleVids}
+use Rattle.cells.specs.Statuses.{zigzag, removed}
+use Rattle.cells.specs.declared.feature_id.FeatureId.{FeatureId}
+use Rattle.cells.specs.declared.vids.TriangleVids.{TriangleVids}
 
 -- the status byte of the cell (i, j)
 abbrev pub byteAt : ℕ → List ℕ → ℕ → ℕ → ℕ

@@ -4,11 +4,11 @@ ghost use Rattle.utils.specs.Errors.{Answers};
 ghost use Rattle.utils.specs.Tables.{outside};
 ghost use Rattle.numbering.specs.Numbers.{triangleNumber, faceNumber, isLeft, rowOf, columnOf, cornerNumber, edgeNumber, vidsOf, conversionRefusal, converted};
 use super::GridSize;
-use crate::cell::Corner;
-use crate::cell::Side;
-use crate::cell::cell_triangle;
-use crate::feature_id::FeatureId;
-use crate::vids::TriangleVids;
+use cells::cell::Corner;
+use cells::cell::Side;
+use cells::cell::cell_triangle;
+use cells::feature_id::FeatureId;
+use cells::vids::TriangleVids;
 use utils::error::HeightFieldError;
 
 impl GridSize {

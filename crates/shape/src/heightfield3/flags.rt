@@ -3,7 +3,7 @@ ghost use Rattle.utils.specs.Errors.{Answers};
 ghost use Rattle.shape.specs.Grids.{gridOf};
 ghost use Rattle.shape.specs.Tables.{byteAt, statusRefusal, settingRefusal, settingLeaves};
 use super::HeightField;
-use numbering::status::HeightFieldCellStatus;
+use cells::status::HeightFieldCellStatus;
 use utils::array2::Array2;
 use utils::error::HeightFieldError;
 

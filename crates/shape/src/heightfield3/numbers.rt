@@ -6,9 +6,9 @@ ghost use Rattle.utils.specs.Tables.{misfit};
 ghost use Rattle.shape.specs.Grids.{gridOf};
 ghost use Rattle.shape.specs.Tables.{vidsAt, vidsById, convertRefusal, convertedAt};
 use super::HeightField;
-use numbering::feature_id::FeatureId;
-use numbering::status::HeightFieldCellStatus;
-use numbering::vids::TriangleVids;
+use cells::feature_id::FeatureId;
+use cells::status::HeightFieldCellStatus;
+use cells::vids::TriangleVids;
 use utils::array2::Array2;
 use utils::error::HeightFieldError;
 

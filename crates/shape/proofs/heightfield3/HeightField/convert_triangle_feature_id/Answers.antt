@@ -1,6 +1,6 @@
 use mathlib.Core.Path.{_∙_, ap}
 use Rattle.std.proofs.shelf.Results.{err-from-errBy}
-use Rattle.numbering.specs.Statuses.{zigzag}
+use Rattle.cells.specs.Statuses.{zigzag}
 use Rattle.shape.proofs.Reading.{first-passes, status-refused, conversion-answer}
 use Rattle.shape.proofs.heightfield3.HeightField.convert_triangle_feature_id.Needs as need
 

@@ -4,11 +4,11 @@ use Prim.Native.Nat.{ℕ}
 use mathlib.Core.Bool.{Bool, true, false}
 use mathlib.Core.List.{[], _∷_}
 use lib.ListN.{getD}
-use Rattle.numbering.specs.declared.cell.Corner.{Corner}
-use Rattle.numbering.specs.declared.cell.Corner.the-variants.{P00, P10, P01, P11}
-use Rattle.numbering.specs.declared.cell.Side.{Side}
-use Rattle.numbering.specs.declared.cell.Side.the-variants.{Left, Right, Top, Bottom, Diagonal}
-use Rattle.numbering.specs.declared.cell.CellTriangle.{CellTriangle}
+use Rattle.cells.specs.declared.cell.Corner.{Corner}
+use Rattle.cells.specs.declared.cell.Corner.the-variants.{P00, P10, P01, P11}
+use Rattle.cells.specs.declared.cell.Side.{Side}
+use Rattle.cells.specs.declared.cell.Side.the-variants.{Left, Right, Top, Bottom, Diagonal}
+use Rattle.cells.specs.declared.cell.CellTriangle.{CellTriangle}
 
 -- how many rows and how many columns a corner lies past the cell's first
 abbrev pub rowsPast : Corner → ℕ

@@ -1,7 +1,7 @@
 ghost use lib.Bits.{bitOr};
 ghost use mathlib.Core.Bool.{not};
 ghost use mathlib.Core.Path.{_≡_};
-ghost use Rattle.numbering.specs.Statuses.{hasAll, zigzag, removed};
+ghost use Rattle.cells.specs.Statuses.{hasAll, zigzag, removed};
 
 /// The status of the cell of a heightfield.
 #[derive(Clone, Copy, PartialEq, Eq, Debug)]
@@ -42,7 +42,7 @@ impl HeightFieldCellStatus {
     pub fn contains(self, other: HeightFieldCellStatus) -> bool
         ensures { λ r. ⌜ r ≡ hasAll (self .0) (other .0) ⌝ }
     {
-        self.0 & other.0 == other.0
+        (self.0 & other.0) == other.0
     }
 
     /// Whether the cell is subdivided using a Z pattern.
