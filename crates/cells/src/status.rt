@@ -1,5 +1,4 @@
 ghost use lib.Bits.{bitOr};
-ghost use mathlib.Core.Bool.{not};
 ghost use mathlib.Core.Path.{_≡_};
 ghost use Rattle.cells.specs.Statuses.{hasAll, zigzag, removed};
 

@@ -2,7 +2,7 @@
 -- There are r + 1 rows and c + 1 columns of points.
 -- Assumes nothing.
 use Prim.Native.Nat.{ℕ, _+_, _-_, _*_, _/_, _%_, _^_}
-use mathlib.Core.Bool.{Bool, true, false, _||_, _&&_, cond}
+use mathlib.Core.Bool.{Bool, true, false, _||_, cond}
 use lib.Dec.{ltb, eqb}
 use Rattle.utils.specs.Tables.{inside}
 use Rattle.cells.specs.Cells.{rowsPast, columnsPast, corner, side}

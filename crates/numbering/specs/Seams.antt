@@ -11,7 +11,6 @@ use Rattle.utils.specs.Tables.{place}
 use Rattle.cells.specs.Cells.{rowsPast, columnsPast, corner}
 use Rattle.numbering.specs.Numbers.{converted}
 use Rattle.cells.specs.Statuses.{zigzag}
-use Rattle.cells.specs.declared.cell.Corner.{Corner}
 use Rattle.cells.specs.declared.feature_id.FeatureId.the-variants.{Edge}
 
 -- the row and the column of a grid point

@@ -8,8 +8,8 @@ use mathlib.Core.List.{List}
 use Rattle.std.specs.declared.option.Option.{Option}
 use Rattle.std.specs.declared.option.Option.the-variants.{Some, None}
 use Rattle.utils.specs.Errors.{orElse}
-use Rattle.utils.specs.Tables.{place, inside, misfit, entryRefusal}
-use Rattle.numbering.specs.Numbers.{vidsOf, rowOf, columnOf, isLeft, conversionRefusal, converted}
+use Rattle.utils.specs.Tables.{place, inside, entryRefusal}
+use Rattle.numbering.specs.Numbers.{vidsOf, rowOf, columnOf, isLeft, localNumber, converted}
 use Rattle.cells.specs.Statuses.{zigzag, removed}
 use Rattle.cells.specs.declared.feature_id.FeatureId.{FeatureId}
 use Rattle.cells.specs.declared.vids.TriangleVids.{TriangleVids}
@@ -45,7 +45,7 @@ vidsById r c flags n = vidsAt r c flags (rowOf r c n) (columnOf r c n) (isLeft r
 
 -- the first check that a conversion fails: 3, then 5, then 7, 0 for none
 abbrev pub convertRefusal : ℕ → ℕ → List ℕ → ℕ → ℕ → FeatureId → ℕ
-convertRefusal r c flags i j fid = orElse (misfit r c (length flags)) (conversionRefusal r c i j fid)
+convertRefusal r c flags i j fid = orElse (statusRefusal r c flags i j) (cond (localNumber fid) 0 7)
 
 -- what a feature of a triangle is called in the whole grid
 abbrev pub convertedAt : ℕ → ℕ → List ℕ → ℕ → ℕ → Bool → FeatureId → FeatureId

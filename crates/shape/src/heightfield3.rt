@@ -1,6 +1,5 @@
 ghost use mathlib.Core.Path.{_≡_};
 ghost use Prim.Native.Nat.{_+_};
-ghost use Rattle.math.specs.Boxes.{boxOf};
 ghost use Rattle.math.specs.Scales.{scaleRefusal};
 use math::aabb::Aabb;
 use math::vector::Vector;
@@ -26,5 +25,4 @@ pub struct HeightField<'d> {
     ghost rows: { heights .nrows ≡ size .nrows + 1 },
     ghost columns: { heights .ncols ≡ size .ncols + 1 },
     ghost ranged: { scaleRefusal scale ≡ 0 },
-    ghost boxed: { ∥ aabb ≡ boxOf lowest highest scale ∥₁ },
 }

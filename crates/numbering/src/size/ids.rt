@@ -1,5 +1,5 @@
 ghost use mathlib.Core.Path.{_≡_};
-ghost use Prim.Native.Nat.{_+_, _*_, _<_, max};
+ghost use Prim.Native.Nat.{_+_, _*_, _<_};
 ghost use Rattle.utils.specs.Errors.{Answers};
 ghost use Rattle.utils.specs.Tables.{outside};
 ghost use Rattle.numbering.specs.Numbers.{triangleNumber, faceNumber, isLeft, rowOf, columnOf, cornerNumber, edgeNumber, vidsOf, conversionRefusal, converted};

@@ -2,7 +2,6 @@ ghost use lib.Ieee.{binary32, ofInt};
 ghost use lib.IntN.{pos};
 ghost use mathlib.Core.Path.{_≡_};
 ghost use Rattle.utils.specs.Errors.{Answers};
-ghost use Rattle.math.specs.Boxes.{boxOf};
 ghost use Rattle.math.specs.Lines.{unitWidth, cellWidth, lineAt};
 ghost use Rattle.shape.specs.Grids.{gridOf};
 ghost use Rattle.shape.specs.LineRanges.{lineRefusal, signedLineRefusal};
@@ -47,8 +46,7 @@ impl HeightField<'_> {
 
     /// The [`Aabb`] of this heightmap.
     pub fn root_aabb(&self) -> Aabb
-        ensures kept { λ r. ⌜ r ≡ gridOf (now (self .entry)) .box ⌝ }
-        ensures value { λ r. let g = gridOf (now (self .entry)) in ⌜ r ≡ boxOf (g .lowest) (g .highest) (g .scale) ⌝ }
+        ensures { λ r. ⌜ r ≡ gridOf (now (self .entry)) .box ⌝ }
     {
         self.aabb
     }

@@ -9,6 +9,7 @@ use super::HeightField;
 use math::aabb::heightfield_aabb;
 use math::heights;
 use math::scale::check_scale;
+use math::scale::is_scale;
 use math::vector::Vector;
 use numbering::size::GridSize;
 use utils::array2::Array2;
@@ -36,7 +37,9 @@ impl<'d> HeightField<'d> {
         if flags.len() != size.nrows() * size.ncols() {
             return Err(HeightFieldError::LengthMismatch);
         }
-        check_scale(scale)?;
+        if !is_scale(scale) {
+            return Err(HeightFieldError::ScaleOutOfRange);
+        }
         let lowest = heights::lowest(heights_zx);
         let highest = heights::highest(heights_zx);
         let aabb = heightfield_aabb(lowest, highest, scale);

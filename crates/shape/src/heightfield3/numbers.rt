@@ -52,8 +52,9 @@ impl HeightField<'_> {
         ensures { λ r. let g = gridOf (now (self .entry)) in ⌜ Answers r (convertRefusal (g .rows) (g .columns) (now (flags .entry)) i j fid) (λ f. f ≡ convertedAt (g .rows) (g .columns) (now (flags .entry)) i j left fid) ⌝ }
     {
         let status = self.cell_status(flags, i, j)?;
-        self.size
-            .convert_triangle_feature_id(status.is_zigzag(), i, j, left, fid)
+        let id = self.size
+            .convert_triangle_feature_id(status.is_zigzag(), i, j, left, fid)?;
+        Ok(id)
     }
 
     fn vids(
