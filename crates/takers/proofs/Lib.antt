@@ -1,0 +1,3 @@
+pub mod BandOrder
+pub mod Orders
+pub mod TotalOrder
