@@ -37,9 +37,13 @@ pub record IsCeilHeld (x : Float) (top k : ℕ) : Type 0 where
   pub not-below : isNan x ≡ false → (k ≡ top) ⊎ T (le x (ofInt binary32 (pos k)))
   pub of-nan : isNan x ≡ true → k ≡ 0
 
--- where v lies along an axis of n cells, counted in cells: (v + 0.5) / (1 / n)
+-- where v lies among cells of that width, counted in cells: (v + 0.5) / width
+abbrev pub positionAmong : Float → Float → Float
+positionAmong v width = div binary32 (add binary32 v half) width
+
+-- the same along an axis of n cells, each 1 / n wide
 abbrev pub position : Float → ℕ → Float
-position v n = div binary32 (add binary32 v half) (unitWidth (ofInt binary32 (pos n)))
+position v n = positionAmong v (unitWidth (ofInt binary32 (pos n)))
 
 -- the cell at v, and the first line at v or past it
 abbrev pub floorCell : Float → ℕ → ℕ

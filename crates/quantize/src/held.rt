@@ -1,8 +1,15 @@
 ghost use mathlib.Core.Path.{_≡_};
 ghost use Rattle.std.specs.Floats.{cut, raised};
-ghost use Rattle.quantize.specs.Quantize.{held, held64};
+ghost use Rattle.quantize.specs.Quantize.{held, held64, positionAmong};
 use std::num::saturating_f32_to_isize;
 use std::num::saturating_f32_to_usize;
+
+/// Where the coordinate `v` lies among cells of the given width, counted in cells.
+pub fn position(v: f32, width: f32) -> f32
+    ensures { λ r. ⌜ r ≡ positionAmong v width ⌝ }
+{
+    (v + 0.5) / width
+}
 
 /// The greatest whole number not above `x`, held to `0..=top`; 0 for a NaN.
 pub fn floor_held(x: f32, top: usize) -> usize

@@ -1,3 +1,4 @@
 pub mod Grids
 pub mod LineRanges
+pub mod Points
 pub mod Tables

@@ -10,6 +10,7 @@ pub mod flags;
 pub mod lines;
 pub mod making;
 pub mod numbers;
+pub mod points;
 
 /// A 3D heightfield over the caller's heights.
 ///
