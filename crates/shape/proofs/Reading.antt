@@ -1,6 +1,6 @@
--- What calls that read the status table answer, in the order of their checks.
+-- The order of the checks of a conversion, and where the heights lie.
 -- Assumes nothing.
-use Prim.Native.Nat.{ℕ, zero, suc}
+use Prim.Native.Nat.{ℕ, zero, suc, _+_, _*_, _^_, _<_, _≤_}
 use lib.ListN.{length}
 use mathlib.Core.Bool.{Bool, true, false}
 use mathlib.Core.List.{List}
@@ -8,6 +8,7 @@ use mathlib.Core.Path.{_≡_, refl}
 use native.Mathlib.Omega.{arith}
 use Rattle.std.proofs.shelf.Ways.{tells}
 use Rattle.std.specs.declared.option.Option.the-variants.{Some}
+use Rattle.utils.proofs.Tables.{place-lt}
 use Rattle.utils.specs.Errors.{orElse}
 use Rattle.utils.specs.Tables.{inside, misfit, outside}
 use Rattle.numbering.specs.Numbers.{vidsOf, conversionRefusal}
@@ -30,10 +31,12 @@ local-refused r c flags i j fid k read h =
     let on : inside r c i j ≡ true = grind (arith, tells) in
     rw read (rw on at h)
 
--- the vertex numbers of a triangle of the grid that is not removed
-pub vids-of-standing : (r c : ℕ) (flags : List ℕ) (i j : ℕ) (left : Bool) (v : TriangleVids) → outside r c i j ≡ 0
-    → removed (byteAt r flags i j) left ≡ false → v ≡ vidsOf r (zigzag (byteAt r flags i j)) i j left
-    → Some v ≡ vidsAt r c flags i j left
-vids-of-standing r c flags i j left v on stands e =
-    let h : inside r c i j ≡ true = grind (arith, tells) in
-    rw (h, stands, e) refl
+-- the place of a grid point is below the number of heights, which are at the most 2 ^ 28
+module _ (r c i j n len rows columns : ℕ) (is : n ≡ r) (fits : len ≡ rows * columns) (r-is : rows ≡ r + 1) (c-is : columns ≡ c + 1) where
+  pub point-lt : i ≤ r → j ≤ c → i + j * (n + 1) < len
+  point-lt p q =
+      let long : len ≡ (r + 1) * (c + 1) = cc in
+      rw (is, long) (place-lt (r + 1) (c + 1) i j (omega arith) (omega arith))
+
+  pub point-small : (r + 1) * (c + 1) ≤ 2 ^ 28 → i ≤ r → j ≤ c → i + j * (n + 1) < 2 ^ 28
+  point-small h p q = rw is (omega (arith, place-lt (r + 1) (c + 1) i j (omega arith) (omega arith)))

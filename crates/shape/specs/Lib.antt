@@ -1,4 +1,6 @@
+pub mod Corners
 pub mod Grids
 pub mod LineRanges
 pub mod Points
 pub mod Tables
+pub mod Triangles

@@ -46,6 +46,9 @@ endCell q = cond (isNan q) (pos 0) (saturated 63 (held64 cut raised q +ℤ pos 1
 
 -- the ranges of rows and of columns that a box touches: each first, and the end that it does not include
 abbrev pub boxRanges : Grid → Aabb → ℤ × ℤ × ℤ × ℤ
-boxRanges g b =
-    (firstCell (position (unscaledZ g (b .mins)) (g .rows)), endCell (position (unscaledZ g (b .maxs)) (g .rows)),
-    firstCell (position (unscaledX g (b .mins)) (g .columns)), endCell (position (unscaledX g (b .maxs)) (g .columns)))
+boxRanges g b = (
+  firstCell (position (unscaledZ g (b .mins)) (g .rows)),
+  endCell (position (unscaledZ g (b .maxs)) (g .rows)),
+  firstCell (position (unscaledX g (b .mins)) (g .columns)),
+  endCell (position (unscaledX g (b .maxs)) (g .columns)),
+)

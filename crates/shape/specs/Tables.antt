@@ -5,6 +5,7 @@ use lib.Dec.{ltb, eqb}
 use lib.ListN.{length, getD, set}
 use mathlib.Core.Bool.{Bool, _&&_, not, cond}
 use mathlib.Core.List.{List}
+use Rattle.std.specs.Options.{mapped}
 use Rattle.std.specs.declared.option.Option.{Option}
 use Rattle.std.specs.declared.option.Option.the-variants.{Some, None}
 use Rattle.utils.specs.Errors.{orElse}
@@ -34,10 +35,13 @@ settingLeaves r c flags i j byte = cond (eqb (settingRefusal r c flags i j byte)
 abbrev pub standing : ℕ → ℕ → List ℕ → ℕ → ℕ → Bool → Bool
 standing r c flags i j left = inside r c i j && not (removed (byteAt r flags i j) left)
 
+-- whether a standing triangle has the zigzag pattern; none of any other
+abbrev pub patternAt : ℕ → ℕ → List ℕ → ℕ → ℕ → Bool → Option Bool
+patternAt r c flags i j left = cond (standing r c flags i j left) (Some (zigzag (byteAt r flags i j))) None
+
 -- the vertex numbers of a standing triangle; none of any other
 abbrev pub vidsAt : ℕ → ℕ → List ℕ → ℕ → ℕ → Bool → Option TriangleVids
-vidsAt r c flags i j left =
-    cond (standing r c flags i j left) (Some (vidsOf r (zigzag (byteAt r flags i j)) i j left)) None
+vidsAt r c flags i j left = mapped (λ z. vidsOf r z i j left) (patternAt r c flags i j left)
 
 -- the same of a triangle by its number
 abbrev pub vidsById : ℕ → ℕ → List ℕ → ℕ → Option TriangleVids

@@ -11,6 +11,7 @@ pub mod lines;
 pub mod making;
 pub mod numbers;
 pub mod points;
+pub mod triangles;
 
 /// A 3D heightfield over the caller's heights.
 ///

@@ -1,1 +1,2 @@
+pub mod corners;
 pub mod heightfield3;

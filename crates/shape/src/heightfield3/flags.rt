@@ -1,7 +1,11 @@
+ghost use Prim.Native.Nat.{_<_};
+ghost use lib.ListN.{length};
 ghost use mathlib.Core.Path.{_≡_};
+ghost use Rattle.std.specs.Options.{Cases};
+ghost use Rattle.utils.specs.Tables.{misfit};
 ghost use Rattle.utils.specs.Errors.{Answers};
 ghost use Rattle.shape.specs.Grids.{gridOf};
-ghost use Rattle.shape.specs.Tables.{byteAt, statusRefusal, settingRefusal, settingLeaves};
+ghost use Rattle.shape.specs.Tables.{byteAt, statusRefusal, settingRefusal, settingLeaves, patternAt};
 use super::HeightField;
 use cells::status::HeightFieldCellStatus;
 use utils::array2::Array2;
@@ -38,5 +42,26 @@ impl HeightField<'_> {
             return Err(HeightFieldError::InvalidStatus);
         }
         Array2::set(self.nrows(), self.ncols(), flags, i, j, status.bits())
+    }
+
+    /// Whether the left or right triangle of the cell `(i, j)` has the zigzag pattern; none if it is removed or off this heightfield.
+    pub(crate) fn pattern(
+        &self,
+        flags: &[u8],
+        i: usize,
+        j: usize,
+        left: bool,
+    ) -> Result<Option<bool>, HeightFieldError>
+        ensures { λ r. let g = gridOf (now (self .entry)) in ⌜ Answers r (misfit (g .rows) (g .columns) (length (now (flags .entry)))) (λ o. (o ≡ patternAt (g .rows) (g .columns) (now (flags .entry)) i j left) × Cases o (Unit {0}) (λ _. (i < g .rows) × (j < g .columns))) ⌝ }
+    {
+        let table = Array2::new(self.nrows(), self.ncols(), flags)?;
+        let Ok(bits) = table.get(i, j) else {
+            return Ok(None);
+        };
+        let status = HeightFieldCellStatus::from_bits_retain(bits);
+        if status.is_removed(left) {
+            return Ok(None);
+        }
+        Ok(Some(status.is_zigzag()))
     }
 }

@@ -7,9 +7,7 @@ ghost use Rattle.shape.specs.Grids.{gridOf};
 ghost use Rattle.shape.specs.Tables.{vidsAt, vidsById, convertRefusal, convertedAt};
 use super::HeightField;
 use cells::feature_id::FeatureId;
-use cells::status::HeightFieldCellStatus;
 use cells::vids::TriangleVids;
-use utils::array2::Array2;
 use utils::error::HeightFieldError;
 
 impl HeightField<'_> {
@@ -66,15 +64,10 @@ impl HeightField<'_> {
     ) -> Result<Option<TriangleVids>, HeightFieldError>
         ensures { λ r. let g = gridOf (now (self .entry)) in ⌜ Answers r (misfit (g .rows) (g .columns) (length (now (flags .entry)))) (λ v. v ≡ vidsAt (g .rows) (g .columns) (now (flags .entry)) i j left) ⌝ }
     {
-        let table = Array2::new(self.nrows(), self.ncols(), flags)?;
-        let Ok(bits) = table.get(i, j) else {
+        let Some(zigzag) = self.pattern(flags, i, j, left)? else {
             return Ok(None);
         };
-        let status = HeightFieldCellStatus::from_bits_retain(bits);
-        if status.is_removed(left) {
-            return Ok(None);
-        }
-        let vids = self.size.triangle_vids(status.is_zigzag(), i, j, left)?;
+        let vids = self.size.triangle_vids(zigzag, i, j, left)?;
         Ok(Some(vids))
     }
 }

@@ -42,7 +42,10 @@ impl HeightField<'_> {
     }
 
     /// The range of segment ids that may intersect the given local Aabb: of rows, then of columns.
-    pub fn unclamped_elements_range_in_local_aabb(&self, aabb: &Aabb) -> (Range<isize>, Range<isize>)
+    pub fn unclamped_elements_range_in_local_aabb(
+        &self,
+        aabb: &Aabb,
+    ) -> (Range<isize>, Range<isize>)
         ensures { λ r. ⌜ (r .0 .start, r .0 .end, r .1 .start, r .1 .end) ≡ boxRanges (gridOf (now (self .entry))) (now (aabb .entry)) ⌝ }
     {
         let rows = first_cell(self.z_position(aabb.mins))..end_cell(self.z_position(aabb.maxs));
@@ -67,14 +70,22 @@ impl HeightField<'_> {
 fn first_cell(position: f32) -> isize
     ensures { λ r. ⌜ r ≡ firstCell position ⌝ }
 {
-    if position.is_nan() { 0 } else { ceil_unclamped(position).saturating_sub(1) }
+    if position.is_nan() {
+        0
+    } else {
+        ceil_unclamped(position).saturating_sub(1)
+    }
 }
 
 /// One above the cell at the position; 0 for a NaN.
 fn end_cell(position: f32) -> isize
     ensures { λ r. ⌜ r ≡ endCell position ⌝ }
 {
-    if position.is_nan() { 0 } else { floor_unclamped(position).saturating_add(1) }
+    if position.is_nan() {
+        0
+    } else {
+        floor_unclamped(position).saturating_add(1)
+    }
 }
 
 /// Whether a coordinate without its scale lies on the grid. A NaN does not.
