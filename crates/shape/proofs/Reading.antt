@@ -2,20 +2,17 @@
 -- Assumes nothing.
 use Prim.Native.Nat.{ℕ, zero, suc, _+_, _*_, _^_, _<_, _≤_}
 use lib.ListN.{length}
-use mathlib.Core.Bool.{Bool, true, false}
+use mathlib.Core.Bool.{true}
 use mathlib.Core.List.{List}
-use mathlib.Core.Path.{_≡_, refl}
+use mathlib.Core.Path.{_≡_}
 use native.Mathlib.Omega.{arith}
 use Rattle.std.proofs.shelf.Ways.{tells}
-use Rattle.std.specs.declared.option.Option.the-variants.{Some}
 use Rattle.utils.proofs.Tables.{place-lt}
 use Rattle.utils.specs.Errors.{orElse}
 use Rattle.utils.specs.Tables.{inside, misfit, outside}
-use Rattle.numbering.specs.Numbers.{vidsOf, conversionRefusal}
-use Rattle.cells.specs.Statuses.{zigzag, removed}
+use Rattle.numbering.specs.Numbers.{conversionRefusal}
 use Rattle.cells.specs.declared.feature_id.FeatureId.{FeatureId}
-use Rattle.cells.specs.declared.vids.TriangleVids.{TriangleVids}
-use Rattle.shape.specs.Tables.{byteAt, statusRefusal, vidsAt, convertRefusal}
+use Rattle.shape.specs.Tables.{statusRefusal, convertRefusal}
 
 -- where two checks in turn refuse nothing, neither does the second
 second-passes : (a b : ℕ) → orElse a b ≡ 0 → b ≡ 0

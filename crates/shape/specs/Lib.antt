@@ -1,3 +1,4 @@
+pub mod BoxLists
 pub mod Corners
 pub mod Grids
 pub mod LineRanges

@@ -6,6 +6,7 @@ use math::vector::Vector;
 use numbering::size::GridSize;
 use utils::array2::Array2;
 
+pub mod boxes;
 pub mod flags;
 pub mod lines;
 pub mod making;

@@ -53,13 +53,13 @@ impl HeightField<'_> {
         (rows, columns)
     }
 
-    fn x_position(&self, pt: Vector) -> f32
+    pub(crate) fn x_position(&self, pt: Vector) -> f32
         ensures { λ r. let g = gridOf (now (self .entry)) in ⌜ r ≡ positionOf (unscaledX g pt) (g .columns) ⌝ }
     {
         position(pt.x / self.scale.x, self.unit_cell_width())
     }
 
-    fn z_position(&self, pt: Vector) -> f32
+    pub(crate) fn z_position(&self, pt: Vector) -> f32
         ensures { λ r. let g = gridOf (now (self .entry)) in ⌜ r ≡ positionOf (unscaledZ g pt) (g .rows) ⌝ }
     {
         position(pt.z / self.scale.z, self.unit_cell_height())

@@ -73,7 +73,15 @@ impl HeightField<'_> {
     }
 
     /// The corners of a cell between two lines along `x` and two along `z`.
-    fn corners_between(&self, i: usize, j: usize, x0: f32, x1: f32, z0: f32, z1: f32) -> CellCorners
+    pub(crate) fn corners_between(
+        &self,
+        i: usize,
+        j: usize,
+        x0: f32,
+        x1: f32,
+        z0: f32,
+        z1: f32,
+    ) -> CellCorners
         requires { ⌜ i < gridOf (now self) .rows ⌝ ∗ ⌜ j < gridOf (now self) .columns ⌝ }
         ensures { λ r. ⌜ r ≡ cornersBetween (gridOf (now (self .entry))) i j x0 x1 z0 z1 ⌝ }
     {
@@ -93,7 +101,7 @@ impl HeightField<'_> {
     }
 
     /// The height of a grid point.
-    fn height(&self, i: usize, j: usize) -> f32
+    pub(crate) fn height(&self, i: usize, j: usize) -> f32
         requires { ⌜ i ≤ gridOf (now self) .rows ⌝ ∗ ⌜ j ≤ gridOf (now self) .columns ⌝ }
         ensures { λ r. ⌜ r ≡ heightAt (gridOf (now (self .entry))) i j ⌝ }
     {
