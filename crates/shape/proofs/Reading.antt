@@ -1,14 +1,16 @@
--- The order of the checks of a conversion, and where the heights lie.
+-- The order of the checks of a conversion, and points off the grid.
 -- Assumes nothing.
-use Prim.Native.Nat.{ℕ, zero, suc, _+_, _*_, _^_, _<_, _≤_}
+use Prim.Native.Nat.{ℕ, zero, suc, _+_}
+use lib.Ieee.{Float, nan}
 use lib.ListN.{length}
-use mathlib.Core.Bool.{true}
+use mathlib.Core.Bool.{true, false, cond}
 use mathlib.Core.List.{List}
-use mathlib.Core.Path.{_≡_}
+use mathlib.Core.Path.{_≡_, refl}
 use native.Mathlib.Omega.{arith}
 use Rattle.std.proofs.shelf.Ways.{tells}
-use Rattle.utils.proofs.Tables.{place-lt}
-use Rattle.utils.specs.Errors.{orElse}
+use Rattle.utils.proofs.Errors.{refused}
+use Rattle.utils.specs.Errors.{errorNumber, orElse}
+use Rattle.utils.specs.declared.error.HeightFieldError.{HeightFieldError}
 use Rattle.utils.specs.Tables.{inside, misfit, outside}
 use Rattle.numbering.specs.Numbers.{conversionRefusal}
 use Rattle.cells.specs.declared.feature_id.FeatureId.{FeatureId}
@@ -28,12 +30,12 @@ local-refused r c flags i j fid k read h =
     let on : inside r c i j ≡ true = grind (arith, tells) in
     rw read (rw on at h)
 
--- the place of a grid point is below the number of heights, which are at the most 2 ^ 28
-module _ (r c i j n len rows columns : ℕ) (is : n ≡ r) (fits : len ≡ rows * columns) (r-is : rows ≡ r + 1) (c-is : columns ≡ c + 1) where
-  pub point-lt : i ≤ r → j ≤ c → i + j * (n + 1) < len
-  point-lt p q =
-      let long : len ≡ (r + 1) * (c + 1) = cc in
-      rw (is, long) (place-lt (r + 1) (c + 1) i j (omega arith) (omega arith))
-
-  pub point-small : (r + 1) * (c + 1) ≤ 2 ^ 28 → i ≤ r → j ≤ c → i + j * (n + 1) < 2 ^ 28
-  point-small h p q = rw is (omega (arith, place-lt (r + 1) (c + 1) i j (omega arith) (omega arith)))
+-- a point off the grid has no height
+pub nan-outside :
+    (r c rows columns i j : ℕ) (y : Float) (e : HeightFieldError) → rows ≡ r + 1 → columns ≡ c + 1 → errorNumber e ≡ outside rows columns i j
+    → nan ≡ cond (inside (r + 1) (c + 1) i j) y nan
+nan-outside r c rows columns i j y e p q number =
+    let n = refused e (errorNumber e) refl in
+    let off : inside rows columns i j ≡ false = grind (arith, tells) in
+    let same : inside (r + 1) (c + 1) i j ≡ false = rw (p, q) at off in
+    rw same refl

@@ -1,14 +1,15 @@
 -- What a heightfield is, and what making and rescaling give.
 -- Assumes nothing.
-use Prim.Native.Nat.{ℕ, _-_}
+use Prim.Native.Nat.{ℕ, _+_, _-_}
 use lib.Dec.{eqb}
-use lib.Ieee.{Float}
+use lib.Ieee.{Float, nan}
+use lib.ListN.{getD}
 use mathlib.Core.Bool.{cond}
 use mathlib.Core.List.{List}
 use mathlib.Core.Path.{_≡_}
 use denote.Ref.{now}
 use Rattle.utils.specs.Errors.{orElse}
-use Rattle.utils.specs.Tables.{misfit}
+use Rattle.utils.specs.Tables.{place, inside, misfit}
 use Rattle.math.specs.Boxes.{boxOf}
 use Rattle.math.specs.Heights.{lowestOf, highestOf}
 use Rattle.math.specs.Scales.{scaleRefusal}
@@ -80,3 +81,8 @@ abbrev pub RescalingIsMaking : Type 0
 RescalingIsMaking =
     (rows columns : ℕ) (heights : List Float) (old new : Vector)
     → rescaled (made rows columns heights old) new ≡ made rows columns heights new
+
+-- the height of the grid point (i, j); NaN off the grid
+abbrev pub heightAt : Grid → ℕ → ℕ → Float
+heightAt g i j =
+    cond (inside (g .rows + 1) (g .columns + 1) i j) (getD (g .heights) (place (g .rows + 1) i j) nan) nan

@@ -6,13 +6,10 @@ use math::vector::Vector;
 use numbering::size::GridSize;
 use utils::array2::Array2;
 
-pub mod boxes;
 pub mod flags;
 pub mod lines;
 pub mod making;
 pub mod numbers;
-pub mod points;
-pub mod triangles;
 
 /// A 3D heightfield over the caller's heights.
 ///

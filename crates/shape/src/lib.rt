@@ -1,2 +1,1 @@
-pub mod corners;
 pub mod heightfield3;

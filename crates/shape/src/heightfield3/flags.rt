@@ -45,7 +45,7 @@ impl HeightField<'_> {
     }
 
     /// Whether the left or right triangle of the cell `(i, j)` has the zigzag pattern; none if it is removed or off this heightfield.
-    pub(crate) fn pattern(
+    pub fn pattern(
         &self,
         flags: &[u8],
         i: usize,

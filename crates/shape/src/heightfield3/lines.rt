@@ -3,13 +3,14 @@ ghost use lib.IntN.{pos};
 ghost use mathlib.Core.Path.{_≡_};
 ghost use Rattle.utils.specs.Errors.{Answers};
 ghost use Rattle.math.specs.Lines.{unitWidth, cellWidth, lineAt};
-ghost use Rattle.shape.specs.Grids.{gridOf};
+ghost use Rattle.shape.specs.Grids.{gridOf, heightAt};
 ghost use Rattle.shape.specs.LineRanges.{lineRefusal, signedLineRefusal};
 use super::HeightField;
 use math::aabb::Aabb;
 use math::lines::unit_line;
 use math::lines::unit_width;
 use math::vector::Vector;
+use numbering::size::GridSize;
 use utils::error::HeightFieldError;
 
 /// The farthest line that the signed forms take, to either side of line 0.
@@ -35,6 +36,23 @@ impl HeightField<'_> {
         ensures { λ r. let g = gridOf (now (self .entry)) in ⌜ r ≡ (g .rows, g .columns) ⌝ }
     {
         (self.nrows(), self.ncols())
+    }
+
+    /// The numbers of rows and columns of this heightfield's cells, by which its features are numbered.
+    pub fn size(&self) -> GridSize
+        ensures { λ r. ⌜ r ≡ now (self .entry) .size ⌝ }
+    {
+        self.size
+    }
+
+    /// The height of the grid point `(i, j)`, before it is scaled; NaN off the grid.
+    pub fn height_at(&self, i: usize, j: usize) -> f32
+        ensures { λ r. ⌜ r ≡ heightAt (gridOf (now (self .entry))) i j ⌝ }
+    {
+        match self.heights.get(i, j) {
+            Ok(y) => y,
+            Err(_) => f32::NAN,
+        }
     }
 
     /// The scale factor applied to this heightfield.

@@ -14,12 +14,12 @@ use Rattle.math.specs.declared.aabb.Aabb.{Aabb}
 use Rattle.numbering.specs.Numbers.{triangleNumber}
 use Rattle.quantize.specs.Quantize.{floorCell, ceilCell}
 use Rattle.takers.specs.declared.triangle.NumberedTriangle.{NumberedTriangle}
-use Rattle.shape.specs.Corners.{triangleOf}
-use Rattle.shape.specs.Grids.{Grid}
-use Rattle.shape.specs.Points.{unscaledX, unscaledZ}
+use Rattle.search.specs.Corners.{triangleOf}
+use Rattle.shape.specs.Grids.{Grid, heightAt}
+use Rattle.points.specs.Points.{unscaledX, unscaledZ}
 use Rattle.shape.specs.Tables.{patternAt}
-use Rattle.shape.specs.Triangles.{heightAt, boxCornersAt}
-use Rattle.shape.specs.declared.corners.CellCorners.{CellCorners}
+use Rattle.search.specs.Triangles.{boxCornersAt}
+use Rattle.search.specs.declared.corners.CellCorners.{CellCorners}
 
 -- the left or the right triangle of a cell with these corners, with its number, if it stands
 abbrev pub numberedAt : Grid → List ℕ → CellCorners → ℕ → ℕ → Bool → List NumberedTriangle

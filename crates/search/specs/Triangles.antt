@@ -1,26 +1,20 @@
 -- Where the triangles of a grid are drawn. Each operation is rounded once.
 -- Assumes nothing.
 use Prim.Native.Nat.{ℕ, _+_}
-use lib.Ieee.{Float, nan, binary32, add, mul, ofInt}
+use lib.Ieee.{Float, binary32, add, mul, ofInt}
 use lib.IntN.{pos}
-use lib.ListN.{getD}
 use mathlib.Core.Bool.{Bool}
 use mathlib.Core.List.{List}
 use Rattle.std.specs.Options.{mapped}
 use Rattle.std.specs.declared.option.Option.{Option}
-use Rattle.utils.specs.Tables.{place}
 use Rattle.math.specs.Lines.{unitWidth, unitLine}
 use Rattle.math.specs.declared.triangle.Triangle.{Triangle}
 use Rattle.math.specs.declared.vector.Vector.{Vector}
 use Rattle.numbering.specs.Numbers.{rowOf, columnOf, isLeft}
-use Rattle.shape.specs.Corners.{triangleOf}
-use Rattle.shape.specs.Grids.{Grid}
+use Rattle.search.specs.Corners.{triangleOf}
+use Rattle.shape.specs.Grids.{Grid, heightAt}
 use Rattle.shape.specs.Tables.{patternAt}
-use Rattle.shape.specs.declared.corners.CellCorners.{CellCorners}
-
--- the height of the grid point (i, j)
-abbrev pub heightAt : Grid → ℕ → ℕ → Float
-heightAt g i j = getD (g .heights) (place (g .rows + 1) i j) nan
+use Rattle.search.specs.declared.corners.CellCorners.{CellCorners}
 
 -- a point before it is scaled, scaled
 abbrev pub scaledBy : Vector → Float → Float → Float → Vector

@@ -6,7 +6,7 @@ use Rattle.cells.specs.declared.cell.Corner.{Corner}
 use Rattle.cells.specs.declared.cell.Corner.the-variants.{P00, P10, P01, P11}
 use Rattle.math.specs.declared.triangle.Triangle.{Triangle}
 use Rattle.math.specs.declared.vector.Vector.{Vector}
-use Rattle.shape.specs.declared.corners.CellCorners.{CellCorners}
+use Rattle.search.specs.declared.corners.CellCorners.{CellCorners}
 
 abbrev pub cornerOf : CellCorners → Corner → Vector
 cornerOf q P00 = q .p00

@@ -5,7 +5,7 @@ use mathlib.Core.List.{List, [], _∷_, _++_}
 use mathlib.Core.Path.{_≡_, refl, sym}
 use native.Mathlib.Omega.{arith}
 use Rattle.std.specs.Iters.{folded}
-use Rattle.shape.specs.BoxLists.{fromOn}
+use Rattle.search.specs.BoxLists.{fromOn}
 
 module _ {S X : Type 0} (adds : S → X → S) where
   pub folded-append : (s : S) (xs ys : List X) → folded adds s (xs ++ ys) ≡ folded adds (folded adds s xs) ys

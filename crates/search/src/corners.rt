@@ -1,5 +1,5 @@
 ghost use mathlib.Core.Path.{_≡_};
-ghost use Rattle.shape.specs.Corners.{cornerOf, triangleOf};
+ghost use Rattle.search.specs.Corners.{cornerOf, triangleOf};
 use cells::cell::Corner;
 use cells::cell::cell_triangle;
 use math::triangle::Triangle;

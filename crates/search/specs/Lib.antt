@@ -1,0 +1,3 @@
+pub mod BoxLists
+pub mod Corners
+pub mod Triangles

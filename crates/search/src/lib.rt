@@ -1,0 +1,3 @@
+pub mod boxes;
+pub mod corners;
+pub mod triangles;
