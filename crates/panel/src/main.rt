@@ -1,10 +1,22 @@
-//! One scanned hull panel from beginning to end: made, trimmed, numbered, rescaled, and a call refused.
+//! One scanned hull panel from beginning to end: made, trimmed, numbered, searched, rescaled, and calls refused.
 use cells::feature_id::FeatureId;
 use cells::feature_id::FeatureIdDebug;
 use cells::status::HeightFieldCellStatus;
+use math::aabb::Aabb;
 use math::vector::Vector;
+use points::cells::CellSearch;
+use points::cells::HeightFieldCellSearch;
+use search::boxes::BoxSearch;
+use search::boxes::HeightFieldBoxSearch;
+use search::triangles::HeightFieldTriangles;
+use search::triangles::Triangles;
 use shape::heightfield3::HeightField;
 use std::error::AnyError;
+use takers::band::height_band::HeightBand;
+use takers::band::height_band::HeightBandTaker;
+use takers::cut_list::CutList;
+use takers::cut_list::CutListTaker;
+use takers::mark_sheet::MarkSheet;
 use utils::error::HeightFieldError;
 use utils::error::HeightFieldErrorDebug;
 use utils::error::HeightFieldErrorDisplay;
@@ -51,6 +63,8 @@ fn main(rt: LibcRuntime) -> Result<(), AnyError> {
     describe(&rt, &grid)?;
     trim(&rt, &grid, &mut flags)?;
     numbers(&rt, &grid, &flags)?;
+    importer(&rt, &grid, &flags)?;
+    guard(&rt, &grid, &flags)?;
     grid.set_scale(Vector::new(2.5, 1.0, 1.0))?;
     println!(rt, "Rescaled to a length of 2.5 and a width of 1.")?;
     describe(&rt, &grid)?;
@@ -115,6 +129,68 @@ fn numbers(rt: &LibcRuntime, grid: &HeightField<'_>, flags: &[u8]) -> Result<(),
         println!(rt, "Cell (2, 3) has no triangle left.")?;
     }
     Ok(())
+}
+
+/// Asks for the cells of two points, and where a triangle is drawn.
+fn importer(rt: &LibcRuntime, grid: &HeightField<'_>, flags: &[u8]) -> Result<(), AnyError> {
+    if let Some((i, j)) = grid.cell_at_point(Vector::new(0.35, 0.0, -0.1)) {
+        println!(
+            rt,
+            "The point at x = 0.35 and z = -0.1 lies in cell ({i}, {j})."
+        )?;
+    }
+    let off = Vector::new(1.3, 0.0, 0.0);
+    if grid.cell_at_point(off).is_none() {
+        let (i, j) = grid.closest_cell_at_point(off);
+        println!(
+            rt,
+            "The point at x = 1.3 and z = 0 is off the panel; the closest cell is ({i}, {j})."
+        )?;
+    }
+    if let Some(triangle) = grid.triangle_at_id(flags, 7)? {
+        let (x, y, z) = (triangle.a.x, triangle.a.y, triangle.a.z);
+        println!(rt, "Triangle 7 starts at ({x}, {y}, {z}).")?;
+    }
+    Ok(())
+}
+
+/// Searches a box: lists its triangles, and measures and marks them.
+fn guard(rt: &LibcRuntime, grid: &HeightField<'_>, flags: &[u8]) -> Result<(), AnyError> {
+    let aabb = Aabb {
+        mins: Vector::new(0.0, 0.0, -0.1),
+        maxs: Vector::new(0.5, 0.2, 0.1),
+    };
+    let mut ids = [0; 8];
+    let found = list(grid, flags, &aabb, &mut ids)?;
+    let (a, b, c, d) = (ids[0], ids[1], ids[2], ids[3]);
+    println!(
+        rt,
+        "The box from (0, 0, -0.1) to (0.5, 0.2, 0.1) touches {found} triangles: {a}, {b}, {c} and {d}."
+    )?;
+    let mut band = HeightBand::new();
+    grid.map_elements_in_local_aabb(flags, &aabb, &mut band)?;
+    if let Some(heights) = band.band() {
+        let (low, high) = (heights.lowest(), heights.highest());
+        println!(rt, "Their corners lie between {low} and {high}.")?;
+    }
+    let mut marks = [0; 23];
+    if let Err(e) = MarkSheet::new(&mut marks).check(grid.size()) {
+        let number = e.number();
+        println!(rt, "A sheet of 23 marks is refused with {number}: {e}.")?;
+    }
+    Ok(())
+}
+
+/// Lists the triangles that a box touches, and says how many there are.
+fn list(
+    grid: &HeightField<'_>,
+    flags: &[u8],
+    aabb: &Aabb,
+    ids: &mut [u32],
+) -> Result<usize, HeightFieldError> {
+    let mut found = CutList::new(ids);
+    grid.map_elements_in_local_aabb(flags, aabb, &mut found)?;
+    Ok(found.len())
 }
 
 /// Makes calls that are refused, and shows that nothing changed.

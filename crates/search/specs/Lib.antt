@@ -1,3 +1,4 @@
 pub mod BoxLists
 pub mod Corners
 pub mod Triangles
+pub mod Widening

@@ -1,8 +1,10 @@
+use lib.Ieee.{ofBits, ofInt, add, mul, div, neg, lt, le, isNan}
 use mathlib.Core.Path.{refl}
 use Rattle.math.proofs.Literals.{half-is, one-is, min-scale-is, max-scale-is}
 use Rattle.cases.proofs.worked.worked_cases.Needs as need
 
 pub returns : need.returns
+unfolding ofBits ofInt add mul div neg lt le isNan
 returns c =
     record {
       constants = (half-is, one-is);
@@ -15,4 +17,9 @@ returns c =
       zigzag-right = refl;
       front = refl;
       back = refl;
+      quarter = (refl, refl);
+      eighth = (refl, refl);
+      border = refl;
+      past-border = refl;
+      box = refl;
     }
