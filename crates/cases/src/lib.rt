@@ -1,3 +1,5 @@
 #[cfg(test)]
+mod boxes;
+#[cfg(test)]
 mod limits;
 pub mod worked;

@@ -1,3 +1,4 @@
 pub mod boxes;
 pub mod corners;
 pub mod triangles;
+pub mod widening;
