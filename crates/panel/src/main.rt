@@ -1,4 +1,6 @@
 //! One scanned hull panel from beginning to end: made, trimmed, numbered, searched, rescaled, and calls refused.
+ghost use Prim.Native.Nat.{_≤_};
+ghost use lib.ListN.{length};
 use cells::feature_id::FeatureId;
 use cells::feature_id::FeatureIdDebug;
 use cells::status::HeightFieldCellStatus;
@@ -167,6 +169,17 @@ fn guard(rt: &LibcRuntime, grid: &HeightField<'_>, flags: &[u8]) -> Result<(), A
         rt,
         "The box from (0, 0, -0.1) to (0.5, 0.2, 0.1) touches {found} triangles: {a}, {b}, {c} and {d}."
     )?;
+    let wider = Aabb {
+        mins: Vector::new(-0.1, -1.0, -0.2),
+        maxs: Vector::new(0.7, 1.0, 0.2),
+    };
+    let mut more = [0; 24];
+    let all = list(grid, flags, &wider, &mut more)?;
+    let kept = count_kept(&ids[0..4], &more);
+    println!(
+        rt,
+        "The wider box from (-0.1, -1, -0.2) to (0.7, 1, 0.2) touches {all} triangles, {kept} of the first {found} among them."
+    )?;
     let mut band = HeightBand::new();
     grid.map_elements_in_local_aabb(flags, &aabb, &mut band)?;
     if let Some(heights) = band.band() {
@@ -191,6 +204,19 @@ fn list(
     let mut found = CutList::new(ids);
     grid.map_elements_in_local_aabb(flags, aabb, &mut found)?;
     Ok(found.len())
+}
+
+/// How many numbers of one list are in another.
+fn count_kept(ids: &[u32], more: &[u32]) -> usize
+    ensures { λ r. ⌜ r ≤ length (now (ids .entry)) ⌝ }
+{
+    let mut count = 0;
+    for id in ids {
+        if more.contains(id) {
+            count += 1;
+        }
+    }
+    count
 }
 
 /// Makes calls that are refused, and shows that nothing changed.
