@@ -8,7 +8,7 @@ use mathlib.Core.List.{List, [], _++_}
 use lib.ListN.{length}
 use Rattle.std.specs.Options.{mapped}
 use Rattle.std.specs.Vec.{listOf}
-use Rattle.utils.specs.Tables.{misfit}
+use Rattle.utils.specs.Tables.{lengthRefusal}
 use Rattle.math.specs.Constants.{half}
 use Rattle.math.specs.declared.aabb.Aabb.{Aabb}
 use Rattle.numbering.specs.Numbers.{triangleNumber}
@@ -87,4 +87,4 @@ boxList g flags b =
 
 -- what a search is handed: nothing where the status table has a wrong length
 abbrev pub visited : Grid → List ℕ → Aabb → List NumberedTriangle
-visited g flags b = cond (eqb (misfit (g .rows) (g .columns) (length flags)) 0) (boxList g flags b) []
+visited g flags b = cond (eqb (lengthRefusal (g .rows) (g .columns) (length flags)) 0) (boxList g flags b) []

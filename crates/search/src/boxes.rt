@@ -3,7 +3,7 @@ ghost use lib.ListN.{length};
 ghost use mathlib.Core.Path.{_≡_};
 ghost use Rattle.std.specs.Iters.{folded};
 ghost use Rattle.utils.specs.Errors.{Answers};
-ghost use Rattle.utils.specs.Tables.{misfit};
+ghost use Rattle.utils.specs.Tables.{lengthRefusal};
 ghost use Rattle.search.specs.BoxLists.{numberedAt, boxCell, rowsBetween, columnsBetween, over, under, allCorners, misses, visited};
 ghost use Rattle.shape.specs.Grids.{Grid, gridOf};
 ghost use Rattle.search.specs.Triangles.{boxCornersAt};
@@ -34,7 +34,7 @@ pub trait BoxSearch {
         aabb: &Aabb,
         f: &mut T,
     ) -> Result<(), HeightFieldError>
-        ensures answer { λ r. let g = searched (now (self .entry)) in ⌜ Answers r (misfit (g .rows) (g .columns) (length (now (flags .entry)))) (λ _. Unit {0}) ⌝ }
+        ensures answer { λ r. let g = searched (now (self .entry)) in ⌜ Answers r (lengthRefusal (g .rows) (g .columns) (length (now (flags .entry)))) (λ _. Unit {0}) ⌝ }
         ensures added { λ _. ⌜ total (now (f .exit)) ≡ folded adds (total (now (f .entry))) (visited (searched (now (self .entry))) (now (flags .entry)) (now (aabb .entry))) ⌝ }
         ensures lender { λ _. ⌜ place (now (f .exit)) ≡ place (now (f .entry)) ⌝ };
 }
@@ -82,7 +82,7 @@ fn map_columns<T: Taker>(
     end: usize,
     f: &mut T,
 )
-    requires { ⌜ misfit (gridOf (now grid) .rows) (gridOf (now grid) .columns) (length (now flags)) ≡ 0 ⌝ ∗ ⌜ «end_row» ≤ gridOf (now grid) .rows ⌝ ∗ ⌜ end ≤ gridOf (now grid) .columns ⌝ }
+    requires { ⌜ lengthRefusal (gridOf (now grid) .rows) (gridOf (now grid) .columns) (length (now flags)) ≡ 0 ⌝ ∗ ⌜ «end_row» ≤ gridOf (now grid) .rows ⌝ ∗ ⌜ end ≤ gridOf (now grid) .columns ⌝ }
     ensures added { λ _. ⌜ total (now (f .exit)) ≡ folded adds (total (now (f .entry))) (columnsBetween (gridOf (now (grid .entry))) (now (flags .entry)) (now (aabb .entry)) «first_row» «end_row» first end) ⌝ }
     ensures lender { λ _. ⌜ place (now (f .exit)) ≡ place (now (f .entry)) ⌝ }
 {
@@ -101,7 +101,7 @@ fn map_column<T: Taker>(
     j: usize,
     f: &mut T,
 )
-    requires { ⌜ misfit (gridOf (now grid) .rows) (gridOf (now grid) .columns) (length (now flags)) ≡ 0 ⌝ ∗ ⌜ j < gridOf (now grid) .columns ⌝ ∗ ⌜ end ≤ gridOf (now grid) .rows ⌝ }
+    requires { ⌜ lengthRefusal (gridOf (now grid) .rows) (gridOf (now grid) .columns) (length (now flags)) ≡ 0 ⌝ ∗ ⌜ j < gridOf (now grid) .columns ⌝ ∗ ⌜ end ≤ gridOf (now grid) .rows ⌝ }
     ensures added { λ _. ⌜ total (now (f .exit)) ≡ folded adds (total (now (f .entry))) (rowsBetween (gridOf (now (grid .entry))) (now (flags .entry)) (now (aabb .entry)) first end j) ⌝ }
     ensures lender { λ _. ⌜ place (now (f .exit)) ≡ place (now (f .entry)) ⌝ }
 {
@@ -119,7 +119,7 @@ fn map_cell<T: Taker>(
     j: usize,
     f: &mut T,
 )
-    requires { ⌜ misfit (gridOf (now grid) .rows) (gridOf (now grid) .columns) (length (now flags)) ≡ 0 ⌝ ∗ ⌜ i < gridOf (now grid) .rows ⌝ ∗ ⌜ j < gridOf (now grid) .columns ⌝ }
+    requires { ⌜ lengthRefusal (gridOf (now grid) .rows) (gridOf (now grid) .columns) (length (now flags)) ≡ 0 ⌝ ∗ ⌜ i < gridOf (now grid) .rows ⌝ ∗ ⌜ j < gridOf (now grid) .columns ⌝ }
     ensures added { λ _. ⌜ total (now (f .exit)) ≡ folded adds (total (now (f .entry))) (boxCell (gridOf (now (grid .entry))) (now (flags .entry)) (now (aabb .entry)) j i) ⌝ }
     ensures lender { λ _. ⌜ place (now (f .exit)) ≡ place (now (f .entry)) ⌝ }
 {
@@ -177,7 +177,7 @@ fn hand_over<T: Taker>(
     left: bool,
     f: &mut T,
 )
-    requires { ⌜ misfit (gridOf (now grid) .rows) (gridOf (now grid) .columns) (length (now flags)) ≡ 0 ⌝ }
+    requires { ⌜ lengthRefusal (gridOf (now grid) .rows) (gridOf (now grid) .columns) (length (now flags)) ≡ 0 ⌝ }
     ensures added { λ _. ⌜ total (now (f .exit)) ≡ folded adds (total (now (f .entry))) (numberedAt (gridOf (now (grid .entry))) (now (flags .entry)) (now (corners .entry)) i j left) ⌝ }
     ensures lender { λ _. ⌜ place (now (f .exit)) ≡ place (now (f .entry)) ⌝ }
 {

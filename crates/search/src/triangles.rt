@@ -3,7 +3,7 @@ ghost use lib.ListN.{length};
 ghost use mathlib.Core.Bool.{true, false};
 ghost use mathlib.Core.Path.{_≡_};
 ghost use Rattle.utils.specs.Errors.{Answers};
-ghost use Rattle.utils.specs.Tables.{misfit};
+ghost use Rattle.utils.specs.Tables.{lengthRefusal};
 ghost use Rattle.shape.specs.Grids.{Grid, gridOf};
 ghost use Rattle.search.specs.Triangles.{scaledBy, cornersBetween, cornersAt, triangleAt, triangleById};
 use crate::corners::CellCorners;
@@ -28,11 +28,11 @@ pub trait Triangles {
         i: usize,
         j: usize,
     ) -> Result<(Option<Triangle>, Option<Triangle>), HeightFieldError>
-        ensures { λ r. let g = field (now (self .entry)) in ⌜ Answers r (misfit (g .rows) (g .columns) (length (now (flags .entry)))) (λ v. v ≡ (triangleAt g (now (flags .entry)) i j true, triangleAt g (now (flags .entry)) i j false)) ⌝ };
+        ensures { λ r. let g = field (now (self .entry)) in ⌜ Answers r (lengthRefusal (g .rows) (g .columns) (length (now (flags .entry)))) (λ v. v ≡ (triangleAt g (now (flags .entry)) i j true, triangleAt g (now (flags .entry)) i j false)) ⌝ };
 
     /// Gets the vertices of the triangle identified by `id`.
     fn triangle_at_id(&self, flags: &[u8], id: u32) -> Result<Option<Triangle>, HeightFieldError>
-        ensures { λ r. let g = field (now (self .entry)) in ⌜ Answers r (misfit (g .rows) (g .columns) (length (now (flags .entry)))) (λ v. v ≡ triangleById g (now (flags .entry)) id) ⌝ };
+        ensures { λ r. let g = field (now (self .entry)) in ⌜ Answers r (lengthRefusal (g .rows) (g .columns) (length (now (flags .entry)))) (λ v. v ≡ triangleById g (now (flags .entry)) id) ⌝ };
 }
 
 pub impl Triangles for HeightField<'_> as HeightFieldTriangles {
@@ -62,7 +62,7 @@ fn triangle_at(
     j: usize,
     left: bool,
 ) -> Result<Option<Triangle>, HeightFieldError>
-    ensures { λ r. let g = gridOf (now (grid .entry)) in ⌜ Answers r (misfit (g .rows) (g .columns) (length (now (flags .entry)))) (λ v. v ≡ triangleAt g (now (flags .entry)) i j left) ⌝ }
+    ensures { λ r. let g = gridOf (now (grid .entry)) in ⌜ Answers r (lengthRefusal (g .rows) (g .columns) (length (now (flags .entry)))) (λ v. v ≡ triangleAt g (now (flags .entry)) i j left) ⌝ }
 {
     let Some(zigzag) = grid.pattern(flags, i, j, left)? else {
         return Ok(None);

@@ -11,7 +11,7 @@ use Rattle.std.proofs.shelf.Ways.{tells}
 use Rattle.utils.proofs.Errors.{refused}
 use Rattle.utils.specs.Errors.{errorNumber, orElse}
 use Rattle.utils.specs.declared.error.HeightFieldError.{HeightFieldError}
-use Rattle.utils.specs.Tables.{inside, misfit, outside}
+use Rattle.utils.specs.Tables.{inside, lengthRefusal, indexRefusal}
 use Rattle.numbering.specs.Numbers.{conversionRefusal}
 use Rattle.cells.specs.declared.feature_id.FeatureId.{FeatureId}
 use Rattle.shape.specs.Tables.{statusRefusal, convertRefusal}
@@ -26,13 +26,13 @@ pub local-refused :
     (r c : ℕ) (flags : List ℕ) (i j : ℕ) (fid : FeatureId) (k : ℕ) → statusRefusal r c flags i j ≡ 0
     → k ≡ conversionRefusal r c i j fid → k ≡ convertRefusal r c flags i j fid
 local-refused r c flags i j fid k read h =
-    let off = second-passes (misfit r c (length flags)) (outside r c i j) read in
+    let off = second-passes (lengthRefusal r c (length flags)) (indexRefusal r c i j) read in
     let on : inside r c i j ≡ true = grind (arith, tells) in
     rw read (rw on at h)
 
 -- a point off the grid has no height
 pub nan-outside :
-    (r c rows columns i j : ℕ) (y : Float) (e : HeightFieldError) → rows ≡ r + 1 → columns ≡ c + 1 → errorNumber e ≡ outside rows columns i j
+    (r c rows columns i j : ℕ) (y : Float) (e : HeightFieldError) → rows ≡ r + 1 → columns ≡ c + 1 → errorNumber e ≡ indexRefusal rows columns i j
     → nan ≡ cond (inside (r + 1) (c + 1) i j) y nan
 nan-outside r c rows columns i j y e p q number =
     let n = refused e (errorNumber e) refl in

@@ -9,7 +9,7 @@ use mathlib.Core.List.{List}
 use mathlib.Core.Path.{_≡_}
 use denote.Ref.{now}
 use Rattle.utils.specs.Errors.{orElse}
-use Rattle.utils.specs.Tables.{place, inside, misfit}
+use Rattle.utils.specs.Tables.{place, inside, lengthRefusal}
 use Rattle.math.specs.Boxes.{boxOf}
 use Rattle.math.specs.Heights.{lowestOf, highestOf}
 use Rattle.math.specs.Scales.{scaleRefusal}
@@ -70,7 +70,7 @@ rescaled g scale =
 abbrev pub makingRefusal : ℕ → ℕ → ℕ → ℕ → Vector → ℕ
 makingRefusal rows columns points cells scale =
     orElse (sizeRefusal rows columns)
-    (orElse (misfit rows columns points) (orElse (misfit (rows - 1) (columns - 1) cells) (scaleRefusal scale)))
+    (orElse (lengthRefusal rows columns points) (orElse (lengthRefusal (rows - 1) (columns - 1) cells) (scaleRefusal scale)))
 
 -- the grid after a rescaling: as it was where the scale is refused
 abbrev pub rescalingLeaves : Grid → Vector → Grid

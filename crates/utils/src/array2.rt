@@ -2,7 +2,7 @@ ghost use mathlib.Core.Path.{_≡_};
 ghost use Prim.Native.Nat.{_*_, _^_, _<_};
 ghost use lib.ListN.{length};
 ghost use Rattle.utils.specs.Errors.{Answers};
-ghost use Rattle.utils.specs.Tables.{place, outside};
+ghost use Rattle.utils.specs.Tables.{place, indexRefusal};
 use crate::error::HeightFieldError;
 use std::marker::PhantomData;
 
@@ -22,7 +22,7 @@ pub struct Array2<'d, T> {
 /// Computes the flat index for the given row and column.
 fn flat(nrows: usize, ncols: usize, i: usize, j: usize) -> Result<usize, HeightFieldError>
     requires { ⌜ nrows * ncols < 2 ^ 64 ⌝ }
-    ensures { λ r. ⌜ Answers r (outside nrows ncols i j) (λ k. (k ≡ place nrows i j) × (k < nrows * ncols)) ⌝ }
+    ensures { λ r. ⌜ Answers r (indexRefusal nrows ncols i j) (λ k. (k ≡ place nrows i j) × (k < nrows * ncols)) ⌝ }
 {
     if i >= nrows || j >= ncols {
         return Err(HeightFieldError::IndexOutOfRange);

@@ -1,7 +1,7 @@
 ghost use mathlib.Core.Path.{_≡_};
 ghost use Prim.Native.Nat.{_+_, _*_, _<_};
 ghost use Rattle.utils.specs.Errors.{Answers};
-ghost use Rattle.utils.specs.Tables.{outside};
+ghost use Rattle.utils.specs.Tables.{indexRefusal};
 ghost use Rattle.numbering.specs.Numbers.{triangleNumber, faceNumber, isLeft, rowOf, columnOf, cornerNumber, edgeNumber, vidsOf, conversionRefusal, converted};
 use super::GridSize;
 use cells::cell::Corner;
@@ -21,7 +21,7 @@ impl GridSize {
 
     /// The number of the left or right triangle of the cell `(i, j)`.
     pub fn triangle_id(&self, i: usize, j: usize, left: bool) -> Result<u32, HeightFieldError>
-        ensures { λ r. let s = now (self .entry) in ⌜ Answers r (outside (s .nrows) (s .ncols) i j) (λ n. n ≡ triangleNumber (s .nrows) (s .ncols) i j left) ⌝ }
+        ensures { λ r. let s = now (self .entry) in ⌜ Answers r (indexRefusal (s .nrows) (s .ncols) i j) (λ n. n ≡ triangleNumber (s .nrows) (s .ncols) i j left) ⌝ }
     {
         if i >= self.nrows || j >= self.ncols {
             return Err(HeightFieldError::IndexOutOfRange);
@@ -50,7 +50,7 @@ impl GridSize {
         j: usize,
         left: bool,
     ) -> Result<TriangleVids, HeightFieldError>
-        ensures { λ r. let s = now (self .entry) in ⌜ Answers r (outside (s .nrows) (s .ncols) i j) (λ v. v ≡ vidsOf (s .nrows) zigzag i j left) ⌝ }
+        ensures { λ r. let s = now (self .entry) in ⌜ Answers r (indexRefusal (s .nrows) (s .ncols) i j) (λ v. v ≡ vidsOf (s .nrows) zigzag i j left) ⌝ }
     {
         if i >= self.nrows || j >= self.ncols {
             return Err(HeightFieldError::IndexOutOfRange);

@@ -2,7 +2,7 @@ ghost use Prim.Native.Nat.{_<_};
 ghost use lib.ListN.{length};
 ghost use mathlib.Core.Path.{_≡_};
 ghost use Rattle.std.specs.Options.{Cases};
-ghost use Rattle.utils.specs.Tables.{misfit};
+ghost use Rattle.utils.specs.Tables.{lengthRefusal};
 ghost use Rattle.utils.specs.Errors.{Answers};
 ghost use Rattle.shape.specs.Grids.{gridOf};
 ghost use Rattle.shape.specs.Tables.{byteAt, statusRefusal, settingRefusal, settingLeaves, patternAt};
@@ -52,7 +52,7 @@ impl HeightField<'_> {
         j: usize,
         left: bool,
     ) -> Result<Option<bool>, HeightFieldError>
-        ensures { λ r. let g = gridOf (now (self .entry)) in ⌜ Answers r (misfit (g .rows) (g .columns) (length (now (flags .entry)))) (λ o. (o ≡ patternAt (g .rows) (g .columns) (now (flags .entry)) i j left) × Cases o (Unit {0}) (λ _. (i < g .rows) × (j < g .columns))) ⌝ }
+        ensures { λ r. let g = gridOf (now (self .entry)) in ⌜ Answers r (lengthRefusal (g .rows) (g .columns) (length (now (flags .entry)))) (λ o. (o ≡ patternAt (g .rows) (g .columns) (now (flags .entry)) i j left) × Cases o (Unit {0}) (λ _. (i < g .rows) × (j < g .columns))) ⌝ }
     {
         let table = Array2::new(self.nrows(), self.ncols(), flags)?;
         let Ok(bits) = table.get(i, j) else {

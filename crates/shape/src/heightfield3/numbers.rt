@@ -2,7 +2,7 @@ ghost use mathlib.Core.Bool.{true, false};
 ghost use mathlib.Core.Path.{_≡_};
 ghost use lib.ListN.{length};
 ghost use Rattle.utils.specs.Errors.{Answers};
-ghost use Rattle.utils.specs.Tables.{misfit};
+ghost use Rattle.utils.specs.Tables.{lengthRefusal};
 ghost use Rattle.shape.specs.Grids.{gridOf};
 ghost use Rattle.shape.specs.Tables.{vidsAt, vidsById, convertRefusal, convertedAt};
 use super::HeightField;
@@ -18,7 +18,7 @@ impl HeightField<'_> {
         i: usize,
         j: usize,
     ) -> Result<(Option<TriangleVids>, Option<TriangleVids>), HeightFieldError>
-        ensures { λ r. let g = gridOf (now (self .entry)) in ⌜ Answers r (misfit (g .rows) (g .columns) (length (now (flags .entry)))) (λ v. v ≡ (vidsAt (g .rows) (g .columns) (now (flags .entry)) i j true, vidsAt (g .rows) (g .columns) (now (flags .entry)) i j false)) ⌝ }
+        ensures { λ r. let g = gridOf (now (self .entry)) in ⌜ Answers r (lengthRefusal (g .rows) (g .columns) (length (now (flags .entry)))) (λ v. v ≡ (vidsAt (g .rows) (g .columns) (now (flags .entry)) i j true, vidsAt (g .rows) (g .columns) (now (flags .entry)) i j false)) ⌝ }
     {
         let left = self.vids(flags, i, j, true)?;
         let right = self.vids(flags, i, j, false)?;
@@ -31,7 +31,7 @@ impl HeightField<'_> {
         flags: &[u8],
         id: u32,
     ) -> Result<Option<TriangleVids>, HeightFieldError>
-        ensures { λ r. let g = gridOf (now (self .entry)) in ⌜ Answers r (misfit (g .rows) (g .columns) (length (now (flags .entry)))) (λ v. v ≡ vidsById (g .rows) (g .columns) (now (flags .entry)) id) ⌝ }
+        ensures { λ r. let g = gridOf (now (self .entry)) in ⌜ Answers r (lengthRefusal (g .rows) (g .columns) (length (now (flags .entry)))) (λ v. v ≡ vidsById (g .rows) (g .columns) (now (flags .entry)) id) ⌝ }
     {
         let (i, j, left) = self.size.split_triangle_id(id);
         self.vids(flags, i, j, left)
@@ -62,7 +62,7 @@ impl HeightField<'_> {
         j: usize,
         left: bool,
     ) -> Result<Option<TriangleVids>, HeightFieldError>
-        ensures { λ r. let g = gridOf (now (self .entry)) in ⌜ Answers r (misfit (g .rows) (g .columns) (length (now (flags .entry)))) (λ v. v ≡ vidsAt (g .rows) (g .columns) (now (flags .entry)) i j left) ⌝ }
+        ensures { λ r. let g = gridOf (now (self .entry)) in ⌜ Answers r (lengthRefusal (g .rows) (g .columns) (length (now (flags .entry)))) (λ v. v ≡ vidsAt (g .rows) (g .columns) (now (flags .entry)) i j left) ⌝ }
     {
         let Some(zigzag) = self.pattern(flags, i, j, left)? else {
             return Ok(None);

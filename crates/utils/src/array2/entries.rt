@@ -1,7 +1,7 @@
 ghost use mathlib.Core.Path.{_≡_};
 ghost use lib.ListN.{length, getD};
 ghost use Rattle.utils.specs.Errors.{Answers};
-ghost use Rattle.utils.specs.Tables.{place, misfit, outside, entryRefusal, written};
+ghost use Rattle.utils.specs.Tables.{place, lengthRefusal, indexRefusal, entryRefusal, written};
 use super::Array2;
 use super::flat;
 use crate::error::HeightFieldError;
@@ -10,7 +10,7 @@ use std::marker::PhantomData;
 impl<'d, T> Array2<'d, T> {
     /// Creates a new 2D array from the given dimensions and data.
     pub fn new(nrows: usize, ncols: usize, data: &'d [T]) -> Result<Array2<'d, T>, HeightFieldError>
-        ensures { λ r. ⌜ Answers r (misfit nrows ncols (length (now («data» .entry)))) (λ a. (a .nrows ≡ nrows) × (a .ncols ≡ ncols) × (a .«data» ≡ «data» .entry)) ⌝ }
+        ensures { λ r. ⌜ Answers r (lengthRefusal nrows ncols (length (now («data» .entry)))) (λ a. (a .nrows ≡ nrows) × (a .ncols ≡ ncols) × (a .«data» ≡ «data» .entry)) ⌝ }
     {
         let Some(len) = nrows.checked_mul(ncols) else {
             return Err(HeightFieldError::LengthMismatch);
@@ -28,7 +28,7 @@ impl<'d, T> Array2<'d, T> {
 
     /// Computes the flat index for the given row and column.
     pub fn flat_index(&self, i: usize, j: usize) -> Result<usize, HeightFieldError>
-        ensures { λ r. let a = now (self .entry) in ⌜ Answers r (outside (a .nrows) (a .ncols) i j) (λ k. k ≡ place (a .nrows) i j) ⌝ }
+        ensures { λ r. let a = now (self .entry) in ⌜ Answers r (indexRefusal (a .nrows) (a .ncols) i j) (λ k. k ≡ place (a .nrows) i j) ⌝ }
     {
         flat(self.nrows, self.ncols, i, j)
     }
@@ -37,7 +37,7 @@ impl<'d, T> Array2<'d, T> {
     pub fn get(&self, i: usize, j: usize) -> Result<T, HeightFieldError>
     where
         T: Copy,
-        ensures { λ r. let a = now (self .entry) in ⌜ Answers r (outside (a .nrows) (a .ncols) i j) (λ x. (d : T) → x ≡ getD (now (a .«data»)) (place (a .nrows) i j) d) ⌝ }
+        ensures { λ r. let a = now (self .entry) in ⌜ Answers r (indexRefusal (a .nrows) (a .ncols) i j) (λ x. (d : T) → x ≡ getD (now (a .«data»)) (place (a .nrows) i j) d) ⌝ }
     {
         let k = flat(self.nrows, self.ncols, i, j)?;
         let data = self.data;
