@@ -10,8 +10,8 @@ use points::cells::CellSearch;
 use points::cells::HeightFieldCellSearch;
 use search::boxes::BoxSearch;
 use search::boxes::HeightFieldBoxSearch;
-use search::triangles::HeightFieldTriangles;
 use search::triangles::Triangles;
+use search::triangles::TrianglesOfHeightField;
 use shape::heightfield3::HeightField;
 use std::error::AnyError;
 use takers::band::height_band::HeightBand;
@@ -23,6 +23,9 @@ use utils::error::HeightFieldError;
 use utils::error::HeightFieldErrorDebug;
 use utils::error::HeightFieldErrorDisplay;
 use utils::error::HeightFieldErrorError;
+use walks::columns::HeightFieldTriangles;
+use walks::columns::methods::HeightFieldTrianglesWalk;
+use walks::walk::Walk;
 
 /// The rows and columns of points of the scan.
 const ROWS: usize = 4;
@@ -67,6 +70,7 @@ fn main(rt: LibcRuntime) -> Result<(), AnyError> {
     numbers(&rt, &grid, &flags)?;
     importer(&rt, &grid, &flags)?;
     guard(&rt, &grid, &flags)?;
+    queue(&rt, &grid, &flags)?;
     grid.set_scale(Vector::new(2.5, 1.0, 1.0))?;
     println!(rt, "Rescaled to a length of 2.5 and a width of 1.")?;
     describe(&rt, &grid)?;
@@ -204,6 +208,21 @@ fn list(
     let mut found = CutList::new(ids);
     grid.map_elements_in_local_aabb(flags, aabb, &mut found)?;
     Ok(found.len())
+}
+
+/// Walks the panel column by column, as far as the third triangle.
+fn queue(rt: &LibcRuntime, grid: &HeightField<'_>, flags: &[u8]) -> Result<(), AnyError> {
+    let mut walk = HeightFieldTriangles::new(grid, flags)?;
+    for place in 1..4u8 {
+        if let Some(triangle) = walk.next() {
+            let id = triangle.id;
+            println!(
+                rt,
+                "Triangle {id} is number {place} of the walk by columns."
+            )?;
+        }
+    }
+    Ok(())
 }
 
 /// How many numbers of one list are in another.

@@ -35,7 +35,7 @@ pub trait Triangles {
         ensures { λ r. let g = field (now (self .entry)) in ⌜ Answers r (lengthRefusal (g .rows) (g .columns) (length (now (flags .entry)))) (λ v. v ≡ triangleById g (now (flags .entry)) id) ⌝ };
 }
 
-pub impl Triangles for HeightField<'_> as HeightFieldTriangles {
+pub impl Triangles for HeightField<'_> as TrianglesOfHeightField {
     ghost field = { λ g. gridOf g };
 
     fn triangles_at(

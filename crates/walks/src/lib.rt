@@ -1,0 +1,3 @@
+pub mod columns;
+pub mod place;
+pub mod walk;
