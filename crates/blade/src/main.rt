@@ -1,4 +1,6 @@
 //! A panel walked around the blade, ring by ring, and a log of calls performed on it.
+#![tactic(auto)]
+
 ghost use Rattle.std.specs.Prelude.{◌≡◌, ◌≤◌, [], length};
 ghost use Rattle.rings.specs.Cursors.{cursor_of, to_come_within};
 

@@ -1,3 +1,5 @@
+#![tactic(auto)]
+
 pub mod cell;
 pub mod feature_id;
 pub mod status;

@@ -1,3 +1,5 @@
+#![tactic(auto)]
+
 pub mod emptying;
 pub mod laws;
 pub mod tallying;

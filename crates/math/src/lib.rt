@@ -1,3 +1,5 @@
+#![tactic(auto)]
+
 pub mod aabb;
 pub mod heights;
 pub mod lines;

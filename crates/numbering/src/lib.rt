@@ -1,2 +1,4 @@
+#![tactic(auto)]
+
 pub mod seams;
 pub mod size;

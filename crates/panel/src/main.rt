@@ -1,4 +1,6 @@
 //! One scanned hull panel from beginning to end: made, trimmed, numbered, searched, rescaled, and calls refused.
+#![tactic(auto)]
+
 ghost use Rattle.std.specs.Prelude.{◌≤◌, length};
 
 use cells::feature_id::FeatureId;

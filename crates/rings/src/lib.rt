@@ -1,3 +1,5 @@
+#![tactic(auto)]
+
 pub mod place;
 pub mod radial;
 pub mod reach;

@@ -1,3 +1,5 @@
+#![tactic(auto)]
+
 pub mod boxes;
 pub mod corners;
 pub mod triangles;

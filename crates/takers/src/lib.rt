@@ -1,3 +1,5 @@
+#![tactic(auto)]
+
 pub mod band;
 pub mod count;
 pub mod cut_list;

@@ -1,2 +1,4 @@
+#![tactic(auto)]
+
 pub mod array2;
 pub mod error;

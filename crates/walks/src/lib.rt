@@ -1,3 +1,5 @@
+#![tactic(auto)]
+
 pub mod columns;
 pub mod numbered;
 pub mod place;
