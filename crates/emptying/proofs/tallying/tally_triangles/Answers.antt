@@ -6,10 +6,10 @@ use Rattle.shape.specs.Grids.{grid_of}
 pub returns : goal.returns
 returns g c =
     record {
-      answer = c.empty-triangles.ensures.answer;
+      answer = c.empty_triangles.ensures.answer;
       added =
-          c.empty-triangles.ensures.added
-          ∙ columns_by_number g.T.Taker.adds c.any-order.ensures (grid_of c.args.grid.now) c.args.flags.now
+          c.empty_triangles.ensures.added
+          ∙ columns_by_number g.T.Taker.adds c.any_order.ensures (grid_of c.args.grid.now) c.args.flags.now
           (g.T.Taker.total c.args.tally.now);
-      lender = c.empty-triangles.ensures.lender;
+      lender = c.empty_triangles.ensures.lender;
     }

@@ -7,11 +7,11 @@ pub returns : goal.returns
 returns g c =
     let grid = c.args.grid.now in
     record {
-      answer = c.empty-triangles-within.ensures.answer;
+      answer = c.empty_triangles_within.ensures.answer;
       added =
-          c.empty-triangles-within.ensures.added
-          ∙ rings_by_number g.T.Taker.adds c.any-order.ensures (grid_of grid) c.args.flags.now
+          c.empty_triangles_within.ensures.added
+          ∙ rings_by_number g.T.Taker.adds c.any_order.ensures (grid_of grid) c.args.flags.now
           (g.T.Taker.total c.args.tally.now) grid.size.rows grid.size.lines grid.size.columns grid.size.files
           c.args.point;
-      lender = c.empty-triangles-within.ensures.lender;
+      lender = c.empty_triangles_within.ensures.lender;
     }

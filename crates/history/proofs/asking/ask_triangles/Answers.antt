@@ -21,11 +21,11 @@ loop-given-preserved g c =
       omega arith,
     )
 
-pub returns-in-default : goal.returns-in-default
-returns-in-default g c =
-    let opened = c.in-ok-walk.ensures in
+pub returns-in_default : goal.returns-in_default
+returns-in_default g c =
+    let opened = c.in_ok-walk.ensures in
     let none = nothing_left (columns_left c.loop-given.walk) (columns_left c.next.new.self) c.next.result
-    (c.args.times - c.loop-given.given) c.next.ensures c.in-default.is in
+    (c.args.times - c.loop-given.given) c.next.ensures c.in_default.is in
     let total = rw none at c.loop-given.invariant.0 in
     let count = rw none at c.loop-given.invariant.1 in
     let all = ap (take c.args.times) opened.1 in

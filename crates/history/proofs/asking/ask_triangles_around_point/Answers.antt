@@ -10,7 +10,7 @@ use Rattle.std.specs.Option.{option_to_list}
 
 -- of what is left to be asked for, this answer comes first
 first_asked :
-    (g : given.Over) (c : goal.After-hand-over-given g)
+    (g : given.Over) (c : goal.After-hand_over-given g)
     → given_from (cursor_of c.loop-reach.walk) (drop c.loop-reach.reach-index c.args.reaches.now)
     ≡ option_to_list c.next.result ++ given_from (cursor_of c.next.new.self) (drop (c.loop-reach.reach-index + 1) c.args.reaches.now)
 first_asked g c =
@@ -18,14 +18,14 @@ first_asked g c =
     c.loop-reach-test.true
     ∙ cursor_asked (cursor_of c.loop-reach.walk) (cursor_of c.next.new.self) _ _ c.next.result c.next.ensures
 
-pub overflow-add-given : goal.overflow-add-given
-overflow-add-given g c =
-    let start = cursor_of c.in-ok-walk.walk in
+pub overflow_add-given : goal.overflow_add-given
+overflow_add-given g c =
+    let start = cursor_of c.in_ok-walk.walk in
     let counts = asked_counts g.T.Taker.adds _ _ c.next.result (first_asked g c) in
     omega (
       arith,
       c.loop-reach.invariant.1,
-      c.hand-over-given.ensures.count,
+      c.hand_over-given.ensures.count,
       given_most start.grid start.flags start.row start.column c.args.reaches.now start.ring start.left,
     )
 
@@ -33,14 +33,14 @@ pub loop-reach-preserved : goal.loop-reach-preserved
 loop-reach-preserved g c =
     let first = first_asked g c in
     let counts = asked_counts g.T.Taker.adds _ _ c.next.result first in (
-      asked_added g.T.Taker.adds _ _ c.next.result first _ _ c.hand-over-given.ensures.added ∙ c.loop-reach.invariant.0,
-      omega (arith, c.loop-reach.invariant.1, c.hand-over-given.ensures.count),
-      c.hand-over-given.ensures.lender ∙ c.loop-reach.invariant.2,
+      asked_added g.T.Taker.adds _ _ c.next.result first _ _ c.hand_over-given.ensures.added ∙ c.loop-reach.invariant.0,
+      omega (arith, c.loop-reach.invariant.1, c.hand_over-given.ensures.count),
+      c.hand_over-given.ensures.lender ∙ c.loop-reach.invariant.2,
     )
 
 pub returns : goal.returns
 returns g c =
-    let opened = c.in-ok-walk.ensures in
+    let opened = c.in_ok-walk.ensures in
     let none = at_drop_all (given_from (cursor_of c.loop-reach.walk)) c.args.reaches.now c.loop-reach.reach-index
     c.loop-reach-test.false in
     let total = rw none at c.loop-reach.invariant.0 in

@@ -28,6 +28,6 @@ returns g c =
     record {
       performed = all;
       calls = c.loop-k.invariant.1;
-      law = performed_keeps_law adds start first c.any-order.ensures c.loop-k.log end last all;
+      law = performed_keeps_law adds start first c.any_order.ensures c.loop-k.log end last all;
       lender = c.loop-k.invariant.2;
     }

@@ -6,6 +6,6 @@ use Rattle.quantize.proofs.held.ceil_held.Goals as goal
 pub returns : goal.returns
 returns c =
     held_shorter ratio_ceil c.args.x _ c.args.top (omega arith)
-    (c.saturating-f32-to-usize.ensures
-    ∙ whole→held raised_makes_whole cut_makes_whole c.args.x c.well-formed.0.1 c.ceil.ensures)
+    (c.saturating_f32_to_usize.ensures
+    ∙ whole→held raised_makes_whole cut_makes_whole c.args.x c.well_formed.0.1 c.ceil.ensures)
     c.min.ensures

@@ -5,6 +5,6 @@ use Rattle.quantize.proofs.held.ceil_unclamped.Goals as goal
 
 pub returns : goal.returns
 returns c =
-    to_z-of_z w64 c.saturating-f32-to-isize.result (record { sfits = c.saturating-f32-to-isize.type-inv })
-    ∙ c.saturating-f32-to-isize.ensures
-    ∙ whole→held64 raised_makes_whole cut_makes_whole c.args.x c.well-formed.0.1 c.ceil.ensures
+    to_z-of_z w64 c.saturating_f32_to_isize.result (record { sfits = c.saturating_f32_to_isize.type_inv })
+    ∙ c.saturating_f32_to_isize.ensures
+    ∙ whole→held64 raised_makes_whole cut_makes_whole c.args.x c.well_formed.0.1 c.ceil.ensures

@@ -6,5 +6,5 @@ use Rattle.quantize.proofs.held.floor_held.Goals as goal
 pub returns : goal.returns
 returns c =
     held_shorter ratio_floor c.args.x _ c.args.top (omega arith)
-    (c.saturating-f32-to-usize.ensures ∙ cut→held 64 c.args.x)
+    (c.saturating_f32_to_usize.ensures ∙ cut→held 64 c.args.x)
     c.min.ensures

@@ -10,9 +10,9 @@ loop-i-init g c = (refl, refl)
 pub loop-i-preserved : goal.loop-i-preserved
 loop-i-preserved g c = (
   handed_more g.T.Taker.adds (box_cell (grid_of c.args.grid.now) c.args.flags.now c.args.aabb.now c.args.j)
-      c.loop-i.i c.args.end (g.T.Taker.total c.loop-i.f) (g.T.Taker.total c.map-cell.new.f)
-      c.loop-i-test.true c.map-cell.ensures.added ∙ c.loop-i.invariant.0,
-  c.map-cell.ensures.lender ∙ c.loop-i.invariant.1,
+      c.loop-i.i c.args.end (g.T.Taker.total c.loop-i.f) (g.T.Taker.total c.map_cell.new.f)
+      c.loop-i-test.true c.map_cell.ensures.added ∙ c.loop-i.invariant.0,
+  c.map_cell.ensures.lender ∙ c.loop-i.invariant.1,
 )
 
 pub returns : goal.returns

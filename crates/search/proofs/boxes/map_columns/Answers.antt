@@ -9,17 +9,17 @@ loop-j-init g c = (refl, refl)
 
 pub loop-j-preserved : goal.loop-j-preserved
 loop-j-preserved g c = (
-  handed_more g.T.Taker.adds (rows_between (grid_of c.args.grid.now) c.args.flags.now c.args.aabb.now c.args.first-row c.args.end-row)
-      c.loop-j.j c.args.end (g.T.Taker.total c.loop-j.f) (g.T.Taker.total c.map-column.new.f)
-      c.loop-j-test.true c.map-column.ensures.added ∙ c.loop-j.invariant.0,
-  c.map-column.ensures.lender ∙ c.loop-j.invariant.1,
+  handed_more g.T.Taker.adds (rows_between (grid_of c.args.grid.now) c.args.flags.now c.args.aabb.now c.args.first_row c.args.end_row)
+      c.loop-j.j c.args.end (g.T.Taker.total c.loop-j.f) (g.T.Taker.total c.map_column.new.f)
+      c.loop-j-test.true c.map_column.ensures.added ∙ c.loop-j.invariant.0,
+  c.map_column.ensures.lender ∙ c.loop-j.invariant.1,
 )
 
 pub returns : goal.returns
 returns g c =
     record {
       added =
-          sym (handed_all g.T.Taker.adds (rows_between (grid_of c.args.grid.now) c.args.flags.now c.args.aabb.now c.args.first-row c.args.end-row)
+          sym (handed_all g.T.Taker.adds (rows_between (grid_of c.args.grid.now) c.args.flags.now c.args.aabb.now c.args.first_row c.args.end_row)
           c.loop-j.j c.args.end (g.T.Taker.total c.loop-j.f) c.loop-j-test.false) ∙ c.loop-j.invariant.0;
       lender = c.loop-j.invariant.1;
     }

@@ -5,7 +5,7 @@ use Rattle.walks.proofs.numbered.numbered_triangles_at.Goals as goal
 
 pub returns : goal.returns
 returns c =
-    let drawn = c.in-ok-left.ensures in
+    let drawn = c.in_ok-left.ensures in
     let numbered = numbered_is_drawn (grid_of c.args.grid.now) c.args.flags.now c.args.i c.args.j in (
       drawn.0,
       (

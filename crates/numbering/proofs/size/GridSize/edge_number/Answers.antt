@@ -3,8 +3,8 @@ use Rattle.numbering.proofs.Bounds.{cell_lt}
 use Rattle.numbering.proofs.size.GridSize.edge_number.Goals as goal
 use Rattle.numbering.proofs.size.GridSize.edge_number.Goals.{in-Left, in-Right, in-Top, in-Bottom, in-Diagonal}
 
-pub overflow-cast-result : goal.overflow-cast-result
-overflow-cast-result c =
+pub overflow_cast-result : goal.overflow_cast-result
+overflow_cast-result c =
     let below = cell_lt c.args.self.now.nrows c.args.self.now.ncols c.args.i c.args.j c.requires.0 c.requires.1 in
     elim c.match-side.branch [
       | in-Left w ↦ omega (arith, w.id-is)

@@ -13,5 +13,5 @@ pub returns : goal.returns
 returns c =
     let w = c.args.self.now in
     found_next (grid_of w.grid.now) w.flags.now w.center.0 w.center.1 c.args.reach w.place.ring
-    c.last-ring-last.result c.find-first.result.2.ring w.pending c.find-first.result.0 _ _ c.in-default.is
-    c.last-ring-last.ensures c.find-first.ensures.answer
+    c.last_ring-last.result c.find-first.result.2.ring w.pending c.find-first.result.0 _ _ c.in_default.is
+    c.last_ring-last.ensures c.find-first.ensures.answer

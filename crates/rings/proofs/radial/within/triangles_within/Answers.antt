@@ -5,8 +5,8 @@ use Rattle.shape.specs.Grids.{grid_of}
 
 pub returns : goal.returns
 returns c =
-    let opened = c.in-ok-triangles.ensures in (
+    let opened = c.in_ok-triangles.ensures in (
       opened.0,
       fresh_to_come (grid_of c.args.grid.now) c.args.flags.now c.args.point c.args.reach
-          (cursor_of c.in-ok-triangles.triangles) opened.1,
+          (cursor_of c.in_ok-triangles.triangles) opened.1,
     )

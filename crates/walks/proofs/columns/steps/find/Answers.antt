@@ -4,13 +4,13 @@ use Rattle.walks.specs.ColumnLists.{slot_of}
 use Rattle.walks.proofs.ColumnSteps.{slot_lt, slot_past, columns_end, gives_found, gives_none, none_found, place_step}
 use Rattle.walks.proofs.columns.steps.find.Goals as goal
 
-pub returns-then-is-some : goal.returns-then-is-some
-returns-then-is-some c =
+pub returns-then-is_some : goal.returns-then-is_some
+returns-then-is_some c =
     let on : c.loop-place.place.j < c.args.grid.now.size.ncols = omega arith in
     let step = place_step (grid_of c.args.grid.now) c.args.flags.now c.loop-place.place c.after-place.result
     c.numbered-found.result c.loop-place.invariant.1 on c.after-place.ensures.next c.numbered-found.ensures in
     record {
-      gives = gives_found c.numbered-found.result _ _ (sym c.if-is-some.ensures) (sym c.loop-place.invariant.0 ∙ step);
+      gives = gives_found c.numbered-found.result _ _ (sym c.if-is_some.ensures) (sym c.loop-place.invariant.0 ∙ step);
       rows = c.after-place.ensures.rows;
       columns = c.after-place.ensures.columns;
     }
@@ -25,7 +25,7 @@ loop-place-preserved c =
     let on : c.loop-place.place.j < c.args.grid.now.size.ncols = omega arith in
     let step = place_step (grid_of c.args.grid.now) c.args.flags.now c.loop-place.place c.after-place.result
     c.numbered-found.result c.loop-place.invariant.1 on c.after-place.ensures.next c.numbered-found.ensures in
-    let none = none_found c.numbered-found.result (sym c.if-is-some.ensures) in
+    let none = none_found c.numbered-found.result (sym c.if-is_some.ensures) in
     (sym (rw none at step) ∙ c.loop-place.invariant.0, c.after-place.ensures.rows, c.after-place.ensures.columns)
 
 pub returns : goal.returns
