@@ -5,9 +5,9 @@ use walks::walk::Walk;
 
 /// Hands all the triangles of a walk to a taker, one after the other.
 pub fn empty_into<W: Walk, T: Taker>(walk: &mut W, taker: &mut T)
-    ensures emptied { rest walk.new ≡ [] }
-    ensures added { total taker.new ≡ fold adds (total taker.old) (rest walk.old) }
-    ensures lender { place taker.new ≡ place taker.old }
+    ensures emptied { W.rest walk.new ≡ [] }
+    ensures added { T.total taker.new ≡ fold T.adds (T.total taker.old) (W.rest walk.old) }
+    ensures lender { T.place taker.new ≡ T.place taker.old }
 {
     while let Some(triangle) = walk.next() {
         taker.add(triangle);

@@ -23,8 +23,8 @@ pub fn empty_triangles<T: Taker>(
     taker: &mut T,
 ) -> Result<(), HeightFieldError>
     ensures answer { let g = grid_of grid.now in Answers result (length_refusal g.rows g.columns (length flags.now)) (λ _. Unit {0}) }
-    ensures added { let g = grid_of grid.now in total taker.new ≡ fold adds (total taker.old) (where_fits g flags.now (column_list g flags.now)) }
-    ensures lender { place taker.new ≡ place taker.old }
+    ensures added { let g = grid_of grid.now in T.total taker.new ≡ fold T.adds (T.total taker.old) (where_fits g flags.now (column_list g flags.now)) }
+    ensures lender { T.place taker.new ≡ T.place taker.old }
 {
     let mut walk = triangles(grid, flags)?;
     empty_into(&mut walk, taker);
@@ -40,8 +40,8 @@ pub fn empty_triangles_within<T: Taker>(
     taker: &mut T,
 ) -> Result<(), HeightFieldError>
     ensures answer { let g = grid_of grid.now in Answers result (length_refusal g.rows g.columns (length flags.now)) (λ _. Unit {0}) }
-    ensures added { let g = grid_of grid.now in total taker.new ≡ fold adds (total taker.old) (where_fits g flags.now (rings_within g flags.now point reach)) }
-    ensures lender { place taker.new ≡ place taker.old }
+    ensures added { let g = grid_of grid.now in T.total taker.new ≡ fold T.adds (T.total taker.old) (where_fits g flags.now (rings_within g flags.now point reach)) }
+    ensures lender { T.place taker.new ≡ T.place taker.old }
 {
     let mut walk = triangles_within(grid, flags, point, reach)?;
     empty_into(&mut walk, taker);

@@ -20,8 +20,8 @@ use walks::walk::Walk;
 /// Adds a triangle, if there is one, and says how many that were.
 fn hand_over<T: Taker>(found: Option<NumberedTriangle>, taker: &mut T) -> usize
     ensures count { result ≡ length (option_to_list found) }
-    ensures added { total taker.new ≡ fold adds (total taker.old) (option_to_list found) }
-    ensures lender { place taker.new ≡ place taker.old }
+    ensures added { T.total taker.new ≡ fold T.adds (T.total taker.old) (option_to_list found) }
+    ensures lender { T.place taker.new ≡ T.place taker.old }
 {
     let Some(triangle) = found else {
         return 0;
@@ -38,8 +38,8 @@ pub fn ask_triangles<T: Taker>(
     taker: &mut T,
 ) -> Result<usize, HeightFieldError>
     ensures answer { let s = state_of grid.now flags.now in Answers result (table_refusal s) (λ n. n ≡ length (take times (column_list s.grid s.flags))) }
-    ensures added { let s = state_of grid.now flags.now in total taker.new ≡ fold adds (total taker.old) (where_fits s.grid s.flags (take times (column_list s.grid s.flags))) }
-    ensures lender { place taker.new ≡ place taker.old }
+    ensures added { let s = state_of grid.now flags.now in T.total taker.new ≡ fold T.adds (T.total taker.old) (where_fits s.grid s.flags (take times (column_list s.grid s.flags))) }
+    ensures lender { T.place taker.new ≡ T.place taker.old }
 {
     let mut walk = triangles(grid, flags)?;
     let mut given = 0;
@@ -62,8 +62,8 @@ pub fn ask_triangles_around_point<T: Taker>(
     taker: &mut T,
 ) -> Result<usize, HeightFieldError>
     ensures answer { let s = state_of grid.now flags.now in Answers result (table_refusal s) (λ n. n ≡ length (given_around s point reaches.now)) }
-    ensures added { let s = state_of grid.now flags.now in total taker.new ≡ fold adds (total taker.old) (where_fits s.grid s.flags (given_around s point reaches.now)) }
-    ensures lender { place taker.new ≡ place taker.old }
+    ensures added { let s = state_of grid.now flags.now in T.total taker.new ≡ fold T.adds (T.total taker.old) (where_fits s.grid s.flags (given_around s point reaches.now)) }
+    ensures lender { T.place taker.new ≡ T.place taker.old }
 {
     let mut walk = triangles_around_point(grid, flags, point)?;
     let mut given = 0;

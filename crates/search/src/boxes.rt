@@ -31,8 +31,8 @@ pub trait BoxSearch {
         f: &mut T,
     ) -> Result<(), HeightFieldError>
         ensures answer { let g = searched self.now in Answers result (length_refusal g.rows g.columns (length flags.now)) (λ _. Unit {0}) }
-        ensures added { total f.new ≡ fold adds (total f.old) (visited (searched self.now) flags.now aabb.now) }
-        ensures lender { place f.new ≡ place f.old };
+        ensures added { T.total f.new ≡ fold T.adds (T.total f.old) (visited (searched self.now) flags.now aabb.now) }
+        ensures lender { T.place f.new ≡ T.place f.old };
 }
 
 impl BoxSearch for HeightField<'_> {
@@ -79,8 +79,8 @@ fn map_columns<T: Taker>(
     f: &mut T,
 )
     requires { (length_refusal (grid_of grid.now).rows (grid_of grid.now).columns (length flags.now) ≡ 0) × ((end_row ≤ (grid_of grid.now).rows) × (end ≤ (grid_of grid.now).columns)) }
-    ensures added { total f.new ≡ fold adds (total f.old) (columns_between (grid_of grid.now) flags.now aabb.now first_row end_row first end) }
-    ensures lender { place f.new ≡ place f.old }
+    ensures added { T.total f.new ≡ fold T.adds (T.total f.old) (columns_between (grid_of grid.now) flags.now aabb.now first_row end_row first end) }
+    ensures lender { T.place f.new ≡ T.place f.old }
 {
     for j in first..end {
         map_column(grid, flags, aabb, first_row, end_row, j, f);
@@ -98,8 +98,8 @@ fn map_column<T: Taker>(
     f: &mut T,
 )
     requires { (length_refusal (grid_of grid.now).rows (grid_of grid.now).columns (length flags.now) ≡ 0) × ((j < (grid_of grid.now).columns) × (end ≤ (grid_of grid.now).rows)) }
-    ensures added { total f.new ≡ fold adds (total f.old) (rows_between (grid_of grid.now) flags.now aabb.now first end j) }
-    ensures lender { place f.new ≡ place f.old }
+    ensures added { T.total f.new ≡ fold T.adds (T.total f.old) (rows_between (grid_of grid.now) flags.now aabb.now first end j) }
+    ensures lender { T.place f.new ≡ T.place f.old }
 {
     for i in first..end {
         map_cell(grid, flags, aabb, i, j, f);
@@ -116,8 +116,8 @@ fn map_cell<T: Taker>(
     f: &mut T,
 )
     requires { (length_refusal (grid_of grid.now).rows (grid_of grid.now).columns (length flags.now) ≡ 0) × ((i < (grid_of grid.now).rows) × (j < (grid_of grid.now).columns)) }
-    ensures added { total f.new ≡ fold adds (total f.old) (box_cell (grid_of grid.now) flags.now aabb.now j i) }
-    ensures lender { place f.new ≡ place f.old }
+    ensures added { T.total f.new ≡ fold T.adds (T.total f.old) (box_cell (grid_of grid.now) flags.now aabb.now j i) }
+    ensures lender { T.place f.new ≡ T.place f.old }
 {
     if is_over(grid, aabb, i, j) || is_under(grid, aabb, i, j) {
         return;
@@ -174,8 +174,8 @@ fn hand_over<T: Taker>(
     f: &mut T,
 )
     requires { length_refusal (grid_of grid.now).rows (grid_of grid.now).columns (length flags.now) ≡ 0 }
-    ensures added { total f.new ≡ fold adds (total f.old) (numbered_at (grid_of grid.now) flags.now corners.now i j left) }
-    ensures lender { place f.new ≡ place f.old }
+    ensures added { T.total f.new ≡ fold T.adds (T.total f.old) (numbered_at (grid_of grid.now) flags.now corners.now i j left) }
+    ensures lender { T.place f.new ≡ T.place f.old }
 {
     let Ok(Some(zigzag)) = grid.pattern(flags, i, j, left) else {
         return;

@@ -3,4 +3,4 @@ use Rattle.walk_laws.proofs.ColumnMembers.{columns_hold_each_once}
 use Rattle.walk_laws.proofs.laws.columns_hold_each_once.Goals as goal
 
 pub returns : goal.returns
-returns c = columns_hold_each_once (grid_of c.args.-grid.now)
+returns c = columns_hold_each_once (grid_of c.args._grid.now)

@@ -5,5 +5,5 @@ use Rattle.walk_laws.proofs.laws.rings_hold_each_once.Goals as goal
 
 pub returns : goal.returns
 returns c =
-    let grid = grid_of c.args.-grid.now in
+    let grid = grid_of c.args._grid.now in
     record { each = rings_hold_each_once grid; order = rings_are_columns grid }

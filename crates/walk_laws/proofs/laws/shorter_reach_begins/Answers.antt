@@ -4,7 +4,7 @@ use Rattle.walk_laws.proofs.laws.shorter_reach_begins.Goals as goal
 
 pub returns : goal.returns
 returns c =
-    let grid = c.args.-grid.now in
+    let grid = c.args._grid.now in
     record {
       shorter =
           shorter_reach (grid_of grid) grid.size.rows grid.size.lines grid.size.columns grid.size.files
