@@ -7,7 +7,7 @@ use Rattle.shape.specs.Grids.{grid_of}
 abbrev pub invariant-loop-step : goal.invariant-loop-step
 invariant-loop-step l =
     let side = side_from (grid_of l.grid) l.flags l.center.0 l.center.1 l.place.ring l.place.side in
-    (side l.step ≡ side l.place.step) × (l.on_grid_lem.start ≤ l.step)
+    (side l.step ≡ side l.place.step) × (l.on_grid.start ≤ l.step)
 
 abbrev pub decreases-loop-step : goal.decreases-loop-step
-decreases-loop-step l = l.on_grid_lem.end - l.step
+decreases-loop-step l = l.on_grid.end - l.step
