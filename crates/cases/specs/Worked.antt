@@ -1,6 +1,6 @@
 -- Cases worked out by hand, stated of the definitions that the calls' contracts cite.
 -- Assumes nothing.
-use Rattle.std.specs.Prelude.{◌≡◌, ℕ, Bool, true, false, List, [], ◌∷◌, map, length, set, replicate, pos, negsuc, Some, None, from_bits, slice_set, Float}
+use Rattle.std.specs.Prelude.{◌≡◌, ℕ, Bool, true, false, List, [], ◌∷◌, map, length, replicate, pos, negsuc, Some, None, from_bits, slice_set, Float}
 use Rattle.std.specs.Float.{fin, binary32}
 use Rattle.utils.specs.Tables.{place}
 use Rattle.math.specs.Constants.{half, one, min_scale, max_scale}

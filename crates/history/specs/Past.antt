@@ -15,10 +15,8 @@ use Rattle.math.specs.declared.aabb.Aabb.{Aabb}
 use Rattle.math.specs.declared.triangle.Triangle.{Triangle}
 use Rattle.math.specs.declared.vector.Vector.{Vector}
 use Rattle.points.specs.Points.{cell_at, closest_cell}
-use Rattle.rings.specs.Reaches.{rings_within}
 use Rattle.rings.specs.RingLists.{ring_of}
 use Rattle.rings.specs.declared.reach.Reach.{Reach}
-use Rattle.search.specs.BoxLists.{box_list}
 use Rattle.search.specs.Triangles.{triangle_by_id}
 use Rattle.shape.specs.Grids.{Grid, made, making_refusal, rescaling_leaves}
 use Rattle.shape.specs.Tables.{byte_at, status_refusal, setting_refusal, setting_leaves, vids_by_id, convert_refusal, converted_at}

@@ -1,6 +1,6 @@
 -- Walking from side to side and from ring to ring: what will be answered stays the same.
 -- Assumes nothing.
-use Rattle.std.proofs.Common.{◌≡◌, ℕ, suc, ◌+◌, ◌-◌, ◌*◌, ◌<◌, ◌≤◌, max, Bool, true, false, cond, ltb, List, [], ◌++◌, is_some, Some, None, Option, sym, refl, ap, ◌∙◌, append_assoc, append-nil, arith}
+use Rattle.std.proofs.Common.{◌≡◌, ℕ, suc, ◌+◌, ◌-◌, ◌*◌, ◌<◌, ◌≤◌, max, true, false, cond, ltb, List, [], ◌++◌, is_some, Some, None, Option, sym, refl, ap, ◌∙◌, append_assoc, append-nil, arith}
 use Rattle.rings.proofs.SideSteps.{none_first}
 use Rattle.rings.specs.Asking.{asked}
 use Rattle.rings.specs.RingLists.{side_after, side_from, sides_after, ring_from, ring_of}

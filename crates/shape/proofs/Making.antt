@@ -1,6 +1,6 @@
 -- Clearing a table.
 -- Assumes nothing.
-use Rattle.std.proofs.Common.{◌≡◌, ℕ, ◌-◌, ◌≤◌, List, ◌++◌, length, drop, replicate, append-nil, arith}
+use Rattle.std.proofs.Common.{◌≡◌, ℕ, ◌≤◌, List, ◌++◌, length, drop, replicate, append-nil, arith}
 use Rattle.std.proofs.lemmas.List.{drop_all}
 
 pub filled : (n : ℕ) (before after : List ℕ) → length before ≤ n → n ≤ length before

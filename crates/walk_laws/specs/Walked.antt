@@ -1,7 +1,7 @@
 -- Lists of walked triangles: which they hold, and that they hold each once.
 -- Assumes nothing.
 use Rattle.std.specs.Prelude.{◌≡◌, ℕ, Bool, true, List, map}
-use mathlib.Core.List.{Perm, Mem, Nodup}
+use mathlib.Core.List.{Mem, Nodup}
 use Rattle.cells.specs.Statuses.{zigzag}
 use Rattle.numbering.specs.Numbers.{triangle_number}
 use Rattle.search.specs.Corners.{triangle_of}

@@ -1,4 +1,4 @@
-use Rattle.std.proofs.Common.{◌≡◌, ◌+◌, ◌++◌, length, drop, fold, sym, ap, ◌∙◌, arith}
+use Rattle.std.proofs.Common.{◌≡◌, ◌+◌, ◌++◌, length, drop, fold, ap, ◌∙◌, arith}
 use Rattle.history.proofs.Asked.{given_from, cursor_asked, given_most, asked_added, asked_counts, where_it_fits}
 use Rattle.history.proofs.asking.ask_triangles_around_point.Given as given
 use Rattle.history.proofs.asking.ask_triangles_around_point.Goals as goal

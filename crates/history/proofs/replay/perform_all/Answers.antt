@@ -1,4 +1,4 @@
-use Rattle.std.proofs.Common.{sym, refl, ◌∙◌, subst, arith}
+use Rattle.std.proofs.Common.{refl, ◌∙◌, subst, arith}
 use Rattle.history.proofs.Performing.{performed_none, performed_more, performed_keeps_law, calls_stay}
 use Rattle.history.proofs.replay.perform_all.Goals as goal
 use Rattle.history.specs.Runs.{state_of, Performed}

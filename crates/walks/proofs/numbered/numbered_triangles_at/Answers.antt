@@ -1,4 +1,4 @@
-use Rattle.std.proofs.Common.{◌≡◌, true, false, ap}
+use Rattle.std.proofs.Common.{true, false, ap}
 use Rattle.shape.specs.Grids.{grid_of}
 use Rattle.walks.proofs.Drawing.{numbered_is_drawn}
 use Rattle.walks.proofs.numbered.numbered_triangles_at.Goals as goal

@@ -1,6 +1,5 @@
 use Rattle.rings.proofs.CursorSteps.{waiting_first, found_next}
 use Rattle.rings.proofs.radial.HeightFieldRadialTriangles.next.Goals as goal
-use Rattle.rings.specs.RingLists.{ring_from}
 use Rattle.shape.specs.Grids.{grid_of}
 
 pub returns-in-Some : goal.returns-in-Some

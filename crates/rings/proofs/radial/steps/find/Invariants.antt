@@ -3,7 +3,6 @@ use Rattle.rings.proofs.RingSteps.{sides_left}
 use Rattle.rings.proofs.radial.steps.find.Given as goal
 use Rattle.rings.specs.Asking.{asked}
 use Rattle.rings.specs.RingLists.{ring_from, ring_of}
-use Rattle.rings.specs.declared.place.RingPlace.{RingPlace}
 use Rattle.shape.specs.Grids.{grid_of}
 
 -- what will be answered from here is what was to be answered at the start
