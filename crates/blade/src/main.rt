@@ -14,7 +14,7 @@ use shape::heightfield3::HeightField;
 use utils::error::HeightFieldError;
 use walks::walk::Walk;
 
-mod log;
+mod call_log;
 
 /// The rows and columns of points of the scan.
 const ROWS: usize = 4;
@@ -44,7 +44,7 @@ fn main(rt: HostRuntime) -> anyhow::Result<()> {
     )?;
     grid.set_cell_status(&mut flags, 2, 3, HeightFieldCellStatus::CELL_REMOVED)?;
     blade(&rt, &grid, &flags)?;
-    log::performed(&rt)
+    call_log::performed(&rt)
 }
 
 /// Walks the panel from the blade outwards, ring by ring: with a short reach, with a longer one, and with one that grows on the way.

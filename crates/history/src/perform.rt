@@ -5,7 +5,7 @@ ghost use Rattle.history.specs.Runs.{state_of, handed};
 use crate::asking::{ask_triangles, ask_triangles_around_point};
 use crate::call::{Answer, Call};
 use emptying::tallying::{empty_triangles, empty_triangles_within};
-use points::cells::CellSearch;
+use points::cell_search::CellSearch;
 use search::boxes::BoxSearch;
 use search::triangles::Triangles;
 use shape::heightfield3::HeightField;

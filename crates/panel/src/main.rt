@@ -7,7 +7,7 @@ use cells::feature_id::FeatureId;
 use cells::status::HeightFieldCellStatus;
 use math::aabb::Aabb;
 use math::vector::Vector;
-use points::cells::CellSearch;
+use points::cell_search::CellSearch;
 use search::boxes::BoxSearch;
 use search::triangles::Triangles;
 use shape::heightfield3::HeightField;

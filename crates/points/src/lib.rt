@@ -1,3 +1,3 @@
 #![tactic(auto)]
 
-pub mod cells;
+pub mod cell_search;

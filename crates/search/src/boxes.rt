@@ -9,7 +9,7 @@ use crate::corners::CellCorners;
 use crate::triangles::corners_between;
 use math::aabb::Aabb;
 use math::lines::unit_line;
-use points::cells::{x_position, z_position};
+use points::cell_search::{x_position, z_position};
 use quantize::held::{ceil_held, floor_held};
 use shape::heightfield3::HeightField;
 use takers::taker::Taker;

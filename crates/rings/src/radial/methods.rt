@@ -11,7 +11,7 @@ use super::steps::find;
 use crate::place::{RingPlace, RingSide};
 use crate::reach::Reach;
 use math::vector::Vector;
-use points::cells::CellSearch;
+use points::cell_search::CellSearch;
 use shape::heightfield3::HeightField;
 use takers::triangle::NumberedTriangle;
 use utils::array2::Array2;
