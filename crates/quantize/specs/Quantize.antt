@@ -6,7 +6,7 @@ use Rattle.std.specs.Float.{ratio_floor, ratio_ceil, nan, inf, fin, binary32}
 use Rattle.math.specs.Constants.{half}
 use Rattle.math.specs.Lines.{unit_width}
 
--- The whole number that p makes of a float, held to 0 .. top: `cut` goes down and `raised` up. A NaN gives 0.
+-- The whole number that p makes of a float, held to 0 .. top: `ratio_floor` goes down and `ratio_ceil` up. A NaN gives 0.
 abbrev pub held : (ℕ → ℕ → ℕ) → Float → ℕ → ℕ
 held p nan top = 0
 held p (inf s) top = cond s 0 top
