@@ -7,5 +7,5 @@ pub returns : goal.returns
 returns c =
     held_shorter ratio_ceil c.args.x _ c.args.top (omega arith)
     (c.saturating_f32_to_usize.ensures
-    ∙ whole→held raised_makes_whole cut_makes_whole c.args.x c.well_formed.0.1 c.ceil.ensures)
+    ∙ whole→held raised_makes_whole cut_makes_whole c.args.x c.well_formed.0.1 assumption)
     c.min.ensures

@@ -7,4 +7,4 @@ pub returns : goal.returns
 returns c =
     to_z-of_z w64 c.saturating_f32_to_isize.result (record { sfits = c.saturating_f32_to_isize.type_inv })
     ∙ c.saturating_f32_to_isize.ensures
-    ∙ whole→held64 cut_makes_whole raised_makes_whole c.args.x c.well_formed.0.1 c.floor.ensures
+    ∙ whole→held64 cut_makes_whole raised_makes_whole c.args.x c.well_formed.0.1 assumption
