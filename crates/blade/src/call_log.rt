@@ -16,7 +16,7 @@ fn asked(call: Call<'_>) -> Event<'_> {
 }
 
 /// Performs a log of calls, prints what each answered, and what holds at the end whatever they were.
-pub fn performed(rt: &HostRuntime) -> anyhow::Result<()> {
+pub(crate) fn performed(rt: &HostRuntime) -> anyhow::Result<()> {
     let point = Vector::new(0.35, 0.0, -0.1);
     let reaches = [
         Reach::Distance(0.0),
