@@ -1,19 +1,11 @@
 //! A log of calls, performed on a panel from its making on.
-use crate::{COLUMNS, HEIGHTS, ROWS};
 use cells::status::HeightFieldCellStatus;
 use history::call::{Answer, Call, Event};
 use history::replay::make_and_perform;
+use hull_scan::{CELLS, COLUMNS, HEIGHTS, ROWS, SCALE};
 use math::vector::Vector;
 use rings::reach::Reach;
 use takers::count::Count;
-
-/// A call that is not answered yet.
-fn asked(call: Call<'_>) -> Event<'_> {
-    Event {
-        call,
-        answer: Answer::Pending,
-    }
-}
 
 /// Performs a log of calls, prints what each answered, and what holds at the end whatever they were.
 pub(crate) fn performed(rt: &HostRuntime) -> anyhow::Result<()> {
@@ -25,25 +17,25 @@ pub(crate) fn performed(rt: &HostRuntime) -> anyhow::Result<()> {
         Reach::Unlimited,
     ];
     let mut log = [
-        asked(Call::SetCellStatus(0, 0, HeightFieldCellStatus::CELL_REMOVED)),
-        asked(Call::SetCellStatus(3, 0, HeightFieldCellStatus::CELL_REMOVED)),
-        asked(Call::SetCellStatus(0, 0, HeightFieldCellStatus::LEFT_TRIANGLE_REMOVED)),
-        asked(Call::SetScale(Vector::new(2.5, 0.0, 1.0))),
-        asked(Call::SetScale(Vector::new(2.5, 1.0, 1.0))),
-        asked(Call::EmptyTriangles),
-        asked(Call::EmptyTrianglesWithin(point, Reach::Unlimited)),
-        asked(Call::TrianglesAroundPoint(point, &reaches)),
-    ];
-    let mut flags = [0xff; 12];
+        Call::SetCellStatus(0, 0, HeightFieldCellStatus::CELL_REMOVED),
+        Call::SetCellStatus(3, 0, HeightFieldCellStatus::CELL_REMOVED),
+        Call::SetCellStatus(0, 0, HeightFieldCellStatus::LEFT_TRIANGLE_REMOVED),
+        Call::SetScale(Vector::new(2.5, 0.0, 1.0)),
+        Call::SetScale(Vector::new(2.5, 1.0, 1.0)),
+        Call::EmptyTriangles,
+        Call::EmptyTrianglesWithin(point, Reach::Unlimited),
+        Call::TrianglesAroundPoint(point, &reaches),
+    ]
+    .map(Event::from);
+    let mut flags = [0xff; CELLS];
     let mut tally = Count { count: 0 };
-    let scale = Vector::new(2.4, 1.0, 0.9);
     let grid = make_and_perform(
-        ROWS, COLUMNS, &HEIGHTS, &mut flags, scale, &mut tally, &mut log,
+        ROWS, COLUMNS, &HEIGHTS, &mut flags, SCALE, &mut tally, &mut log,
     )?;
-    let mut number: u8 = 1;
-    for event in log {
-        tell(rt, number, event.answer)?;
-        number = number.saturating_add(1);
+    for (number, event) in (1u8..).zip(log) {
+        if let Some(answer) = event.answer {
+            tell(rt, number, answer)?;
+        }
     }
     let (byte, width, count) = (flags[0], grid.scale().x, tally.count);
     println!(rt;
@@ -56,6 +48,7 @@ pub(crate) fn performed(rt: &HostRuntime) -> anyhow::Result<()> {
 }
 
 /// Prints what a call answered.
+// The sentences are this program's; a `Display` of `Answer` would need some for the answers that never come up here.
 fn tell(rt: &HostRuntime, number: u8, answer: Answer) -> anyhow::Result<()> {
     match answer {
         Answer::Done(Ok(())) => println!(rt; "Call {number} was done.")?,

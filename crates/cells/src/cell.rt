@@ -3,7 +3,7 @@ ghost use Rattle.cells.specs.Cells.{triangle};
 
 /// A corner of the cell `(i, j)`: `P00` is the grid point `(i, j)`, `P10` the point `(i + 1, j)`,
 /// `P01` the point `(i, j + 1)` and `P11` the point `(i + 1, j + 1)`.
-#[derive(Clone, Copy)]
+#[derive(Clone, Copy, PartialEq, Eq, Debug)]
 pub enum Corner {
     P00,
     P10,
@@ -12,7 +12,7 @@ pub enum Corner {
 }
 
 /// A segment between two corners of a cell.
-#[derive(Clone, Copy)]
+#[derive(Clone, Copy, PartialEq, Eq, Debug)]
 pub enum Side {
     /// From `P00` to `P10`.
     Left,
@@ -27,7 +27,7 @@ pub enum Side {
 }
 
 /// One of the two triangles of a cell: side `k` joins the corners `k` and `k + 1`, side 2 the last and the first.
-#[derive(Clone, Copy)]
+#[derive(Clone, Copy, PartialEq, Eq, Debug)]
 pub struct CellTriangle {
     pub corners: [Corner; 3],
     pub sides: [Side; 3],
@@ -70,7 +70,5 @@ const TRIANGLES: [[CellTriangle; 2]; 2] = [
 pub fn cell_triangle(zigzag: bool, left: bool) -> CellTriangle
     ensures { result ≡ triangle zigzag left }
 {
-    let pattern = if zigzag { 1 } else { 0 };
-    let place = if left { 0 } else { 1 };
-    TRIANGLES[pattern][place]
+    TRIANGLES[usize::from(zigzag)][usize::from(!left)]
 }

@@ -17,6 +17,7 @@ impl HeightFieldCellStatus {
     pub const CELL_REMOVED: HeightFieldCellStatus = HeightFieldCellStatus(0b110);
 
     /// The status with these bits, known or not.
+    // The names are those of the library's `Flags`, whose promises go by sets of flags and say less of the bits.
     pub fn from_bits_retain(bits: u8) -> HeightFieldCellStatus
         ensures { result.0 ≡ bits }
     {

@@ -1,6 +1,6 @@
 -- Emptied whole: a walk by columns, and unlimited rings round the cell closest to a point, add up the triangles by rising number.
 -- Assumes nothing.
-use Rattle.std.proofs.Common.{◌≡◌, ℕ, ◌-◌, ◌^◌, ◌<◌, min, max, Bool, true, false, cond, eqb, List, [], length, fold, refl, ap, ◌∙◌, arith}
+use Rattle.std.proofs.Common.{◌≡◌, ℕ, ◌-◌, ◌^◌, ◌<◌, min, max, Bool, true, false, cond, List, [], fold, refl, ap, ◌∙◌, arith}
 use Rattle.emptying.proofs.AnyOrderFolds.{order_does_not_count}
 use Rattle.emptying.specs.ByNumber.{by_number, where_fits, AnyOrder}
 use Rattle.math.specs.declared.vector.Vector.{Vector}
@@ -10,9 +10,10 @@ use Rattle.rings.specs.Reaches.{last_ring, rings_within}
 use Rattle.rings.specs.RingLists.{farthest_ring, rings_up_to, unlimited_rings}
 use Rattle.rings.specs.declared.reach.Reach.TheVariants.{Unlimited}
 use Rattle.shape.specs.Grids.{Grid}
+use Rattle.shape.specs.Tables.{table_refusal}
+use Rattle.std.specs.Option.{is_none}
 use Rattle.std.specs.Float.{ratio_floor}
 use Rattle.takers.specs.declared.triangle.NumberedTriangle.{NumberedTriangle}
-use Rattle.utils.specs.Tables.{length_refusal}
 use Rattle.walk_laws.proofs.ReachOrder.{held_most}
 use Rattle.walks.specs.ColumnLists.{column_list}
 
@@ -48,7 +49,7 @@ module _ {Total : Type 0} (adds : Total → NumberedTriangle → Total) (any : A
   pub columns_by_number :
       fold adds first (where_fits g flags (column_list g flags)) ≡ fold adds first (where_fits g flags (by_number g flags))
   columns_by_number =
-      fits_alike adds first (eqb (length_refusal g.rows g.columns (length flags)) 0) (column_list g flags) (by_number g flags)
+      fits_alike adds first (is_none (table_refusal g flags)) (column_list g flags) (by_number g flags)
       ((order_does_not_count adds any g flags).columns first)
 
   module _ (some_rows : 0 < g.rows) (few_rows : g.rows < 2 ^ 24) (some_columns : 0 < g.columns) (few_columns : g.columns < 2 ^ 24) (p : Vector) where
@@ -60,5 +61,5 @@ module _ {Total : Type 0} (adds : Total → NumberedTriangle → Total) (any : A
     pub rings_by_number :
         fold adds first (where_fits g flags (rings_within g flags p Unlimited)) ≡ fold adds first (where_fits g flags (by_number g flags))
     rings_by_number =
-        fits_alike adds first (eqb (length_refusal g.rows g.columns (length flags)) 0) (rings_within g flags p Unlimited)
+        fits_alike adds first (is_none (table_refusal g flags)) (rings_within g flags p Unlimited)
         (by_number g flags) rings_add_up

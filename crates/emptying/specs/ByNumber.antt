@@ -1,14 +1,15 @@
 -- The standing triangles by rising number, and adding them up.
 -- Assumes nothing.
-use Rattle.std.specs.Prelude.{◌≡◌, ℕ, ◌*◌, ◌<◌, cond, List, [], length, fold, ◌==◌}
+use Rattle.std.specs.Prelude.{◌≡◌, ℕ, ◌*◌, ◌<◌, cond, List, [], fold}
 use mathlib.Core.List.{Pairwise}
+use Rattle.std.specs.Option.{is_none}
 use Rattle.numbering.specs.Numbers.{row_of, column_of, is_left}
 use Rattle.rings.specs.RingLists.{unlimited_rings}
 use Rattle.search.specs.BoxLists.{from_on}
 use Rattle.shape.specs.Grids.{Grid}
+use Rattle.shape.specs.Tables.{table_refusal}
 use Rattle.takers.specs.Totals.{IsTriangle}
 use Rattle.takers.specs.declared.triangle.NumberedTriangle.{NumberedTriangle}
-use Rattle.utils.specs.Tables.{length_refusal}
 use Rattle.walk_laws.specs.Walked.{HoldsEachOnce}
 use Rattle.walks.specs.ColumnLists.{drawn_at, column_list}
 
@@ -28,7 +29,7 @@ pub record RisesOverEach (g : Grid) (flags : List ℕ) (xs : List NumberedTriang
 
 -- a list of triangles where the table has the right length; none where it is refused
 abbrev pub where_fits : Grid → List ℕ → List NumberedTriangle → List NumberedTriangle
-where_fits g flags xs = cond (length_refusal g.rows g.columns (length flags) == 0) xs []
+where_fits g flags xs = cond (is_none (table_refusal g flags)) xs []
 
 -- adding any two triangles, in either order, to any total ends alike
 abbrev pub AnyOrder : {Total : Type 0} → (Total → NumberedTriangle → Total) → Type 0

@@ -9,6 +9,7 @@ pub fn empty_into<W: Walk, T: Taker>(walk: &mut W, taker: &mut T)
     ensures added { T.total taker.new ≡ fold T.adds (T.total taker.old) (W.rest walk.old) }
     ensures lender { T.place taker.new ≡ T.place taker.old }
 {
+    // A `for` over `walk.by_ref()` was tried: that the walk is empty afterwards could not be proved.
     while let Some(triangle) = walk.next() {
         taker.add(triangle);
     }

@@ -1,10 +1,10 @@
-ghost use Rattle.std.specs.Prelude.{◌≡◌, length, fold};
+ghost use Rattle.std.specs.Prelude.{◌≡◌, fold};
 ghost use Rattle.emptying.specs.ByNumber.{by_number, where_fits};
 ghost use Rattle.rings.specs.Reaches.{rings_within};
 ghost use Rattle.rings.specs.declared.reach.Reach.TheVariants.{Unlimited};
 ghost use Rattle.shape.specs.Grids.{grid_of};
+ghost use Rattle.shape.specs.Tables.{table_refusal};
 ghost use Rattle.utils.specs.Errors.{Answers};
-ghost use Rattle.utils.specs.Tables.{length_refusal};
 ghost use Rattle.walks.specs.ColumnLists.{column_list};
 
 use crate::emptying::empty_into;
@@ -17,12 +17,13 @@ use utils::error::HeightFieldError;
 use walks::columns::methods::triangles;
 
 /// Empties a walk through all the triangles of a heightfield into a taker.
+// Each of the four opens its own walk and promises its own list; what they share is `empty_into`.
 pub fn empty_triangles<T: Taker>(
     grid: &HeightField<'_>,
     flags: &[u8],
     taker: &mut T,
 ) -> Result<(), HeightFieldError>
-    ensures answer { let g = grid_of grid.now in Answers result (length_refusal g.rows g.columns (length flags.now)) (λ _. Unit {0}) }
+    ensures answer { let g = grid_of grid.now in Answers result (table_refusal g flags.now) (λ _. Unit {0}) }
     ensures added { let g = grid_of grid.now in T.total taker.new ≡ fold T.adds (T.total taker.old) (where_fits g flags.now (column_list g flags.now)) }
     ensures lender { T.place taker.new ≡ T.place taker.old }
 {
@@ -39,7 +40,7 @@ pub fn empty_triangles_within<T: Taker>(
     reach: Reach,
     taker: &mut T,
 ) -> Result<(), HeightFieldError>
-    ensures answer { let g = grid_of grid.now in Answers result (length_refusal g.rows g.columns (length flags.now)) (λ _. Unit {0}) }
+    ensures answer { let g = grid_of grid.now in Answers result (table_refusal g flags.now) (λ _. Unit {0}) }
     ensures added { let g = grid_of grid.now in T.total taker.new ≡ fold T.adds (T.total taker.old) (where_fits g flags.now (rings_within g flags.now point reach)) }
     ensures lender { T.place taker.new ≡ T.place taker.old }
 {
@@ -54,7 +55,7 @@ pub fn tally_triangles<T: Tally>(
     flags: &[u8],
     tally: &mut T,
 ) -> Result<(), HeightFieldError>
-    ensures answer { let g = grid_of grid.now in Answers result (length_refusal g.rows g.columns (length flags.now)) (λ _. Unit {0}) }
+    ensures answer { let g = grid_of grid.now in Answers result (table_refusal g flags.now) (λ _. Unit {0}) }
     ensures added { let g = grid_of grid.now in T.Taker.total tally.new ≡ fold T.Taker.adds (T.Taker.total tally.old) (where_fits g flags.now (by_number g flags.now)) }
     ensures lender { T.Taker.place tally.new ≡ T.Taker.place tally.old }
 {
@@ -69,7 +70,7 @@ pub fn tally_triangles_around_point<T: Tally>(
     point: Vector,
     tally: &mut T,
 ) -> Result<(), HeightFieldError>
-    ensures answer { let g = grid_of grid.now in Answers result (length_refusal g.rows g.columns (length flags.now)) (λ _. Unit {0}) }
+    ensures answer { let g = grid_of grid.now in Answers result (table_refusal g flags.now) (λ _. Unit {0}) }
     ensures added { let g = grid_of grid.now in T.Taker.total tally.new ≡ fold T.Taker.adds (T.Taker.total tally.old) (where_fits g flags.now (by_number g flags.now)) }
     ensures lender { T.Taker.place tally.new ≡ T.Taker.place tally.old }
 {

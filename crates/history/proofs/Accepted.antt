@@ -1,6 +1,6 @@
 -- What an accepted setting of a status leaves, and what an accepted making has checked.
 -- Assumes nothing.
-use Rattle.std.proofs.Common.{◌≡◌, ℕ, ◌-◌, ◌*◌, ◌^◌, ◌<◌, cond, ◌&&◌, eqb, List, length, set, arith}
+use Rattle.std.proofs.Common.{◌≡◌, ℕ, ◌-◌, ◌*◌, ◌^◌, ◌<◌, cond, ◌&&◌, eqb, List, length, set, None, arith}
 use Rattle.math.specs.Scales.{scale_refusal}
 use Rattle.math.specs.declared.vector.Vector.{Vector}
 use Rattle.numbering.specs.Numbers.{size_refusal}
@@ -16,10 +16,10 @@ use Rattle.utils.specs.Tables.{place, length_refusal, index_refusal}
 
 -- an accepted setting is of a cell of the grid
 pub setting_inside :
-    (r c : ℕ) (flags : List ℕ) (i j byte : ℕ) → setting_refusal r c flags i j byte ≡ 0 → (i < r) × (j < c)
+    (r c : ℕ) (flags : List ℕ) (i j byte : ℕ) → setting_refusal r c flags i j byte ≡ None → (i < r) × (j < c)
 setting_inside r c flags i j byte h =
     let read = (both_pass (status_refusal r c flags i j) _ h).0 in
-    let on : index_refusal r c i j ≡ 0 = (both_pass (length_refusal r c (length flags)) _ read).1 in
+    let on : index_refusal r c i j ≡ None = (both_pass (length_refusal r c (length flags)) _ read).1 in
     grind (arith, nat_tests)
 
 -- what is written at one cell is read there, and every other cell reads as before
@@ -41,17 +41,17 @@ pub record Checked (rows columns cells : ℕ) (scale : Vector) : Type 0 where
   pub some_columns : 0 < columns - 1
   pub few_columns : columns - 1 < 2 ^ 24
   pub table : cells ≡ (rows - 1) * (columns - 1)
-  pub ranged : scale_refusal scale ≡ 0
+  pub ranged : scale_refusal scale ≡ None
 
 pub making_checked :
-    (rows columns points cells : ℕ) (scale : Vector) → making_refusal rows columns points cells scale ≡ 0
+    (rows columns points cells : ℕ) (scale : Vector) → making_refusal rows columns points cells scale ≡ None
     → Checked rows columns cells scale
 making_checked rows columns points cells scale h =
     let size = both_pass (size_refusal rows columns) _ h in
     let lengths = both_pass (length_refusal rows columns points) _ size.1 in
     let table = both_pass (length_refusal (rows - 1) (columns - 1) cells) _ lengths.1 in
-    let sized : size_refusal rows columns ≡ 0 = size.0 in
-    let counted : length_refusal (rows - 1) (columns - 1) cells ≡ 0 = table.0 in
+    let sized : size_refusal rows columns ≡ None = size.0 in
+    let counted : length_refusal (rows - 1) (columns - 1) cells ≡ None = table.0 in
     record {
       some_rows = grind (arith, nat_tests);
       few_rows = grind (arith, nat_tests);

@@ -3,15 +3,15 @@
 use Rattle.std.proofs.Common.{◌≡◌, ℕ, zero, suc, ◌+◌, ◌-◌, ◌≤◌, List, [], ◌∷◌, ◌++◌, length, take, Some, None, fold, Option, sym, refl, subst, arith, length-append}
 use Rattle.emptying.specs.ByNumber.{where_fits}
 use Rattle.rings.specs.Asking.{asked}
-use Rattle.rings.specs.Cursors.{RingCursor, asked_of}
+use Rattle.rings.specs.RingCursors.{RingCursor, asked_of}
 use Rattle.rings.specs.Reaches.{last_ring}
 use Rattle.rings.specs.RingLists.{ring_of}
 use Rattle.rings.specs.declared.reach.Reach.{Reach}
 use Rattle.search.proofs.Handing.{folded_append}
 use Rattle.shape.specs.Grids.{Grid}
+use Rattle.shape.specs.Tables.{table_refusal}
 use Rattle.std.specs.Option.{option_to_list}
 use Rattle.takers.specs.declared.triangle.NumberedTriangle.{NumberedTriangle}
-use Rattle.utils.specs.Tables.{length_refusal}
 use Rattle.walk_laws.specs.Reaching.{given}
 use Rattle.walks.specs.Walks.{Gives}
 
@@ -64,6 +64,6 @@ module _ {X : Type 0} where
 
 -- where the table has the right length
 pub where_it_fits :
-    (g : Grid) (flags : List ℕ) (xs : List NumberedTriangle) → length_refusal g.rows g.columns (length flags) ≡ 0
+    (g : Grid) (flags : List ℕ) (xs : List NumberedTriangle) → table_refusal g flags ≡ None
     → xs ≡ where_fits g flags xs
 where_it_fits g flags xs fits = rw fits refl

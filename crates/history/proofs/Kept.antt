@@ -1,6 +1,6 @@
 -- What lasts through a past: the grid is as made under the present scale, and the table holds the present flags.
 -- Assumes nothing.
-use Rattle.std.proofs.Common.{◌≡◌, ℕ, ◌-◌, ◌*◌, ◌<◌, Bool, true, false, cond, List, [], ◌∷◌, ◌++◌, length, set, is_ok, Ok, Err, Result, sym, refl, ap, ◌∙◌, arith}
+use Rattle.std.proofs.Common.{◌≡◌, ℕ, ◌-◌, ◌*◌, ◌<◌, cond, List, [], ◌∷◌, ◌++◌, length, set, is_ok, None, Ok, Err, Result, sym, refl, ap, ◌∙◌, arith}
 use Rattle.cells.specs.declared.status.HeightFieldCellStatus.{HeightFieldCellStatus}
 use Rattle.history.proofs.Accepted.{setting_inside, read_back, Checked, making_checked}
 use Rattle.history.specs.Past.{State, Making, start, answered, Step, sets_status, rescales, converts, searches_box, walks_columns, walks_around, empties_columns, empties_rings, asks_status, asks_vids, asks_triangle, asks_cell, asks_box, Past, begins, goes_on}
@@ -10,7 +10,7 @@ use Rattle.history.specs.declared.call.Call.TheVariants.{SetCellStatus, SetScale
 use Rattle.history.specs.declared.call.Event.{Event}
 use Rattle.math.specs.Scales.{scale_refusal}
 use Rattle.math.specs.declared.vector.Vector.{Vector}
-use Rattle.search.proofs.Handing.{folded_append}
+use Rattle.search.proofs.Handing.{either_way, folded_append}
 use Rattle.shape.specs.Grids.{made, rescaled, rescaling_leaves}
 use Rattle.shape.specs.Tables.{byte_at, setting_refusal, setting_leaves}
 use Rattle.std.proofs.lemmas.List.{length-set, length-replicate, get_or-replicate}
@@ -23,7 +23,7 @@ use Rattle.utils.specs.declared.error.HeightFieldError.{HeightFieldError}
 -- what lasts from a making to the state after the events
 pub record Kept (m : Making) (es : List Event) (s : State) : Type 0 where
   pub as_made : s.grid ≡ made m.rows m.columns m.heights (present_scale m es)
-  pub ranged : scale_refusal (present_scale m es) ≡ 0
+  pub ranged : scale_refusal (present_scale m es) ≡ None
   pub table : length s.flags ≡ (m.rows - 1) * (m.columns - 1)
   pub present : (i j : ℕ) → i < m.rows - 1 → j < m.columns - 1 → byte_at (m.rows - 1) s.flags i j ≡ present_flag es i j
 
@@ -59,10 +59,6 @@ flag_after es e i j = folded_append (byte_after i j) 0 es (e ∷ [])
 scale_after_lem : (m : Making) (es : List Event) (e : Event) → present_scale m (es ++ e ∷ []) ≡ scale_after (present_scale m es) e
 scale_after_lem m es e = folded_append scale_after m.scale es (e ∷ [])
 
-either_way : {X : Type 0} (b : Bool) (x : X) → cond b x x ≡ x
-either_way true x = refl
-either_way false x = refl
-
 module _ {m : Making} {es : List Event} {s : State} (k : Kept m es s) where
   -- an event that leaves the state, a scale and a byte as they are
   kept_left :
@@ -93,7 +89,7 @@ module _ {m : Making} {es : List Event} {s : State} (k : Kept m es s) where
         present = λ i j p q. k.present i j p q ∙ sym (flag_after es e i j);
       }
   kept_rescaled scale (Err e) h =
-      rw (refused e (scale_refusal scale) h) (kept_left (answered (SetScale scale) (Done (Err e))) (λ _. refl) (λ _ _ _. refl))
+      rw (refused _ e h) (kept_left (answered (SetScale scale) (Done (Err e))) (λ _. refl) (λ _ _ _. refl))
 
   pub rows_made : s.grid.rows ≡ m.rows - 1
   rows_made = ap (λ g. g.rows) k.as_made
@@ -126,7 +122,7 @@ module _ {m : Making} {es : List Event} {s : State} (k : Kept m es s) where
             rw (written, rows_made) (read ∙ ap (cond _ byte) (k.present i j p q) ∙ sym (flag_after es e i j));
       }
   kept_set row column status (Err e) h =
-      rw (refused e (setting_refusal s.grid.rows s.grid.columns s.flags row column status.0) h)
+      rw (refused _ e h)
       (kept_left (answered (SetCellStatus row column status) (Done (Err e))) (λ _. refl) (λ _ _ _. refl))
 
 -- ---- all the events

@@ -1,6 +1,6 @@
 -- The law of a grid holds at the end of every past.
 -- Assumes nothing.
-use Rattle.std.proofs.Common.{◌≡◌, ℕ, ◌^◌, ◌<◌, List, sym, ap, ◌∙◌, subst}
+use Rattle.std.proofs.Common.{None, ◌≡◌, ℕ, ◌^◌, ◌<◌, List, sym, ap, ◌∙◌, subst}
 use mathlib.Core.List.{IsPrefix}
 use Rattle.emptying.proofs.AnyOrderFolds.{order_does_not_count}
 use Rattle.emptying.proofs.WholeWalks.{unlimited_is_all, rings_add_up}
@@ -32,7 +32,7 @@ record Fits (g : Grid) : Type 0 where
   few_rows : g.rows < 2 ^ 24
   some_columns : 0 < g.columns
   few_columns : g.columns < 2 ^ 24
-  ranged : scale_refusal g.scale ≡ 0
+  ranged : scale_refusal g.scale ≡ None
 
 -- so unlimited rings are all rings
 all_unlimited :
@@ -52,7 +52,7 @@ module _ {m : Making} {es : List Event} {s : State} (k : Kept m es s) where
         few_rows = rw (rows_made k) c.few_rows;
         some_columns = rw (columns_made k) c.some_columns;
         few_columns = rw (columns_made k) c.few_columns;
-        ranged = subst (λ g. scale_refusal g.scale ≡ 0) (sym k.as_made) k.ranged;
+        ranged = subst (λ g. scale_refusal g.scale ≡ None) (sym k.as_made) k.ranged;
       }
 
   -- two pasts of one making that end under one scale end in one grid

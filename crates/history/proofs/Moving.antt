@@ -5,17 +5,15 @@ use Rattle.history.specs.Law.{OnlySettlingMoves}
 use Rattle.history.specs.Past.{State, Making, sets_status, rescales, converts, searches_box, walks_columns, walks_around, empties_columns, empties_rings, asks_status, asks_vids, asks_triangle, asks_cell, asks_box, Past, goes_on}
 use Rattle.history.specs.Runs.{Run, nothing, one_more}
 use Rattle.history.specs.declared.call.Event.{Event}
-use Rattle.math.specs.Scales.{scale_refusal}
-use Rattle.shape.specs.Tables.{setting_refusal}
-use Rattle.takers.specs.declared.triangle.NumberedTriangle.{NumberedTriangle}
 use Rattle.utils.proofs.Errors.{refused}
+use Rattle.takers.specs.declared.triangle.NumberedTriangle.{NumberedTriangle}
 
 pub only_settling_moves : OnlySettlingMoves
 only_settling_moves s s' e (sets_status i j status (Ok u) h) = inl refl
 only_settling_moves s s' e (sets_status i j status (Err x) h) =
-    inr (rw (refused x (setting_refusal s.grid.rows s.grid.columns s.flags i j status.0) h))
+    inr (rw (refused _ x h))
 only_settling_moves s s' e (rescales scale (Ok u) h) = inl refl
-only_settling_moves s s' e (rescales scale (Err x) h) = inr (rw (refused x (scale_refusal scale) h))
+only_settling_moves s s' e (rescales scale (Err x) h) = inr (rw (refused _ x h))
 only_settling_moves s s' e (converts i j left fid r h) = inr refl
 only_settling_moves s s' e (searches_box b r h) = inr refl
 only_settling_moves s s' e (walks_columns times r h) = inr refl

@@ -1,6 +1,6 @@
 -- Performing the calls of a log one after the other.
 -- Assumes nothing.
-use Rattle.std.proofs.Common.{◌≡◌, ℕ, ◌+◌, ◌<◌, cond, eqb, List, [], ◌∷◌, ◌++◌, map, length, get_or, take, set, replicate, fold, sym, refl, ap, ◌∙◌, subst}
+use Rattle.std.proofs.Common.{◌≡◌, ℕ, ◌+◌, ◌<◌, cond, None, Option, List, [], ◌∷◌, ◌++◌, map, length, get_or, take, set, replicate, fold, sym, refl, ap, ◌∙◌, subst}
 use Rattle.emptying.specs.ByNumber.{AnyOrder}
 use Rattle.history.proofs.LawHolds.{grid_law}
 use Rattle.history.proofs.Moving.{run_prolongs}
@@ -10,6 +10,10 @@ use Rattle.history.specs.declared.call.Event.{Event}
 use Rattle.search.proofs.Handing.{folded_append}
 use Rattle.shape.specs.Grids.{Grid, made}
 use Rattle.std.proofs.lemmas.List.{map-set, set-get_or, take_more_set}
+use Rattle.std.specs.Option.{is_none}
+use Rattle.utils.proofs.Errors.{refused}
+use Rattle.utils.specs.Errors.{error_number, refusal_number}
+use Rattle.utils.specs.declared.error.HeightFieldError.{HeightFieldError}
 use Rattle.takers.specs.declared.triangle.NumberedTriangle.{NumberedTriangle}
 
 module _ {Total : Type 0} (adds : Total → NumberedTriangle → Total) (s : State) (first : Total) where
@@ -67,7 +71,13 @@ since_making adds m es s s' first last made performed keeps =
 
 -- making leaves a cleared table
 pub cleared_start :
-    (m : Making) (grid : Grid) (before after : List ℕ) (k : ℕ) → grid ≡ made m.rows m.columns m.heights m.scale
-    → k ≡ 0 → after ≡ cond (eqb k 0) (replicate m.cells 0) before
+    (m : Making) (grid : Grid) (before after : List ℕ) (refusal : Option HeightFieldError) → grid ≡ made m.rows m.columns m.heights m.scale
+    → refusal ≡ None → after ≡ cond (is_none refusal) (replicate m.cells 0) before
     → ◌≡◌ {A = State} (record { grid = grid; flags = after }) (start m)
-cleared_start m grid before after k is none cleared = rw (is, cleared, none) refl
+cleared_start m grid before after refusal is none cleared = rw (is, cleared, none) refl
+
+-- a refused making leaves the table
+pub refused_leaves :
+    (before cleared after : List ℕ) (refusal : Option HeightFieldError) (e : HeightFieldError) → error_number e ≡ refusal_number refusal
+    → after ≡ cond (is_none refusal) cleared before → after ≡ before
+refused_leaves before cleared after refusal e number leaves = leaves ∙ rw (refused refusal e number) refl

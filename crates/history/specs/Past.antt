@@ -1,6 +1,6 @@
 -- The past of a grid: what was called since it was made, and what was answered.
 -- Assumes nothing.
-use Rattle.std.specs.Prelude.{◌≡◌, ℕ, Bool, List, [], ◌∷◌, ◌++◌, length, take, replicate, Option, Result, Float}
+use Rattle.std.specs.Prelude.{◌≡◌, ℕ, Bool, List, [], ◌∷◌, ◌++◌, length, take, replicate, Some, None, Option, Result, Float}
 use Rattle.std.specs.Borrow.{Bor}
 use Rattle.cells.specs.declared.feature_id.FeatureId.{FeatureId}
 use Rattle.cells.specs.declared.status.HeightFieldCellStatus.{HeightFieldCellStatus}
@@ -19,10 +19,9 @@ use Rattle.rings.specs.RingLists.{ring_of}
 use Rattle.rings.specs.declared.reach.Reach.{Reach}
 use Rattle.search.specs.Triangles.{triangle_by_id}
 use Rattle.shape.specs.Grids.{Grid, made, making_refusal, rescaling_leaves}
-use Rattle.shape.specs.Tables.{byte_at, status_refusal, setting_refusal, setting_leaves, vids_by_id, convert_refusal, converted_at}
+use Rattle.shape.specs.Tables.{table_refusal, byte_at, status_refusal, setting_refusal, setting_leaves, vids_by_id, convert_refusal, converted_at}
 use Rattle.takers.specs.declared.triangle.NumberedTriangle.{NumberedTriangle}
 use Rattle.utils.specs.Errors.{Answers}
-use Rattle.utils.specs.Tables.{length_refusal}
 use Rattle.utils.specs.declared.error.HeightFieldError.{HeightFieldError}
 use Rattle.walk_laws.specs.Reaching.{given}
 use Rattle.walks.specs.ColumnLists.{column_list}
@@ -39,7 +38,7 @@ pub record Making : Type 0 where
   pub heights : List Float
   pub cells : ℕ
   pub scale : Vector
-  pub accepted : making_refusal rows columns (length heights) cells scale ≡ 0
+  pub accepted : making_refusal rows columns (length heights) cells scale ≡ None
 
 -- what it makes
 abbrev pub start : Making → State
@@ -47,11 +46,7 @@ start m = record { grid = made m.rows m.columns m.heights m.scale; flags = repli
 
 -- a call and what was answered
 abbrev pub answered : Call → Answer → Event
-answered call answer = record { call = call; answer = answer }
-
--- the refusal of a table of a wrong length
-abbrev pub table_refusal : State → ℕ
-table_refusal s = length_refusal s.grid.rows s.grid.columns (length s.flags)
+answered call answer = record { call = call; answer = Some answer }
 
 -- what a walk around a point gives that is asked with one reach after the other
 abbrev pub given_around : State → Vector → List Reach → List NumberedTriangle
@@ -75,20 +70,20 @@ pub data Step (s : State) : Event → State → Type 0 where
       (λ f. f ≡ converted_at s.grid.rows s.grid.columns s.flags i j left fid)
       → Step s (answered (ConvertTriangleFeatureId i j left fid) (Feature r)) s
   searches_box :
-      (b : Aabb) (r : Result (Unit {0}) HeightFieldError) → Answers r (table_refusal s) (λ _. Unit {0})
+      (b : Aabb) (r : Result (Unit {0}) HeightFieldError) → Answers r (table_refusal s.grid s.flags) (λ _. Unit {0})
       → Step s (answered (MapElementsInLocalAabb b) (Done r)) s
   walks_columns :
       (times : ℕ) (r : Result ℕ HeightFieldError)
-      → Answers r (table_refusal s) (λ n. n ≡ length (take times (column_list s.grid s.flags)))
+      → Answers r (table_refusal s.grid s.flags) (λ n. n ≡ length (take times (column_list s.grid s.flags)))
       → Step s (answered (Triangles times) (Given r)) s
   walks_around :
       (p : Vector) (reaches : Bor (List Reach)) (r : Result ℕ HeightFieldError)
-      → Answers r (table_refusal s) (λ n. n ≡ length (given_around s p reaches.now))
+      → Answers r (table_refusal s.grid s.flags) (λ n. n ≡ length (given_around s p reaches.now))
       → Step s (answered (TrianglesAroundPoint p reaches) (Given r)) s
   empties_columns :
-      (r : Result (Unit {0}) HeightFieldError) → Answers r (table_refusal s) (λ _. Unit {0}) → Step s (answered EmptyTriangles (Done r)) s
+      (r : Result (Unit {0}) HeightFieldError) → Answers r (table_refusal s.grid s.flags) (λ _. Unit {0}) → Step s (answered EmptyTriangles (Done r)) s
   empties_rings :
-      (p : Vector) (reach : Reach) (r : Result (Unit {0}) HeightFieldError) → Answers r (table_refusal s) (λ _. Unit {0})
+      (p : Vector) (reach : Reach) (r : Result (Unit {0}) HeightFieldError) → Answers r (table_refusal s.grid s.flags) (λ _. Unit {0})
       → Step s (answered (EmptyTrianglesWithin p reach) (Done r)) s
   asks_status :
       (i j : ℕ) (r : Result HeightFieldCellStatus HeightFieldError)
@@ -96,11 +91,11 @@ pub data Step (s : State) : Event → State → Type 0 where
       → Step s (answered (CellStatus i j) (Status r)) s
   asks_vids :
       (id : ℕ) (r : Result (Option TriangleVids) HeightFieldError)
-      → Answers r (table_refusal s) (λ v. v ≡ vids_by_id s.grid.rows s.grid.columns s.flags id)
+      → Answers r (table_refusal s.grid s.flags) (λ v. v ≡ vids_by_id s.grid.rows s.grid.columns s.flags id)
       → Step s (answered (TriangleVidsAtId id) (Vids r)) s
   asks_triangle :
       (id : ℕ) (r : Result (Option Triangle) HeightFieldError)
-      → Answers r (table_refusal s) (λ t. t ≡ triangle_by_id s.grid s.flags id) → Step s (answered (TriangleAtId id) (Drawn r)) s
+      → Answers r (table_refusal s.grid s.flags) (λ t. t ≡ triangle_by_id s.grid s.flags id) → Step s (answered (TriangleAtId id) (Drawn r)) s
   asks_cell : (p : Vector) → Step s (answered (CellAtPoint p) (Cell (cell_at s.grid p))) s
   asks_box : Step s (answered RootAabb (BoundingBox s.grid.box)) s
 

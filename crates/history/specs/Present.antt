@@ -1,25 +1,29 @@
 -- What is present at the end of a past: each cell's last accepted setting, and the last granted scale.
 -- Assumes nothing.
-use Rattle.std.specs.Prelude.{ℕ, Bool, true, false, cond, ◌&&◌, List, is_ok, fold, ◌==◌}
+use Rattle.std.specs.Prelude.{ℕ, Bool, true, false, cond, ◌&&◌, List, is_ok, fold, ◌==◌, Some, None, Option}
 use Rattle.history.specs.Past.{State, Making}
 use Rattle.history.specs.declared.call.Answer.{Answer}
-use Rattle.history.specs.declared.call.Answer.TheVariants.{Pending, Done, Feature, Given, Status, Vids, Drawn, Cell, BoundingBox}
+use Rattle.history.specs.declared.call.Answer.TheVariants.{Done, Feature, Given, Status, Vids, Drawn, Cell, BoundingBox}
 use Rattle.history.specs.declared.call.Call.{Call}
 use Rattle.history.specs.declared.call.Event.{Event}
 use Rattle.history.specs.declared.call.Call.TheVariants.{SetCellStatus, SetScale, ConvertTriangleFeatureId, MapElementsInLocalAabb, Triangles, TrianglesAroundPoint, EmptyTriangles, EmptyTrianglesWithin, CellStatus, TriangleVidsAtId, TriangleAtId, CellAtPoint, RootAabb}
 use Rattle.math.specs.declared.vector.Vector.{Vector}
 
 -- an answer that grants what was asked for
-abbrev pub granted : Answer → Bool
-granted Pending = false
-granted (Done r) = is_ok r
-granted (Feature r) = false
-granted (Given r) = false
-granted (Status r) = false
-granted (Vids r) = false
-granted (Drawn r) = false
-granted (Cell c) = false
-granted (BoundingBox b) = false
+abbrev pub grants : Answer → Bool
+grants (Done r) = is_ok r
+grants (Feature r) = false
+grants (Given r) = false
+grants (Status r) = false
+grants (Vids r) = false
+grants (Drawn r) = false
+grants (Cell c) = false
+grants (BoundingBox b) = false
+
+-- a call that was answered so
+abbrev pub granted : Option Answer → Bool
+granted None = false
+granted (Some answer) = grants answer
 
 -- the byte of the cell (i, j) where a call was granted, from the byte before: another only where the call sets this cell's
 abbrev pub byte_set_by : ℕ → ℕ → ℕ → Call → ℕ

@@ -1,3 +1,5 @@
+ghost use Rattle.std.specs.Prelude.{◌≡◌, None};
+
 use cells::feature_id::FeatureId;
 use cells::status::HeightFieldCellStatus;
 use cells::vids::TriangleVids;
@@ -32,8 +34,6 @@ pub enum Call<'a> {
 /// What a call answered.
 #[derive(Clone, Copy)]
 pub enum Answer {
-    /// Nothing yet.
-    Pending,
     Done(Result<(), HeightFieldError>),
     Feature(Result<FeatureId, HeightFieldError>),
     /// How many triangles a walk gave.
@@ -45,9 +45,17 @@ pub enum Answer {
     BoundingBox(Aabb),
 }
 
-/// A call and what it answered.
+/// A call and what it answered; none before it is performed.
 #[derive(Clone, Copy)]
 pub struct Event<'a> {
     pub call: Call<'a>,
-    pub answer: Answer,
+    pub answer: Option<Answer>,
+}
+
+impl<'a> From<Call<'a>> for Event<'a> {
+    ghost from_gives = { λ call event. event ≡ record { call = call; answer = None } };
+
+    fn from(call: Call<'a>) -> Event<'a> {
+        Event { call, answer: None }
+    }
 }

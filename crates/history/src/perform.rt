@@ -12,6 +12,8 @@ use shape::heightfield3::HeightField;
 use takers::taker::{Taker, Tally};
 
 /// Performs a call on a heightfield and its table. The triangles that it gives are added to the tally.
+// A log holds calls as data, so they are told apart here. Grid, table and tally stay three `&mut`: a struct of them would have to promise
+// what it leaves of each.
 pub fn perform<T: Tally>(
     grid: &mut HeightField<'_>,
     flags: &mut [u8],

@@ -24,10 +24,8 @@ pub fn perform_all<T: Tally>(
     ensures lender { T.Taker.place tally.new ≡ T.Taker.place tally.old }
 {
     tally.any_order();
-    for k in 0..log.len() {
-        let call = log[k].call;
-        let answer = perform(grid, flags, tally, call);
-        log[k] = Event { call, answer };
+    for event in log.iter_mut() {
+        event.answer = Some(perform(grid, flags, tally, event.call));
     }
 }
 

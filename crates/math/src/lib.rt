@@ -1,6 +1,7 @@
 #![tactic(auto)]
 
 pub mod aabb;
+pub mod axis;
 pub mod heights;
 pub mod lines;
 pub mod scale;

@@ -1,5 +1,7 @@
 ghost use Rattle.std.specs.Prelude.{◌≡◌};
 
+use std::fmt;
+
 /// A vector, or a point, of three coordinates.
 #[derive(Clone, Copy, Debug)]
 pub struct Vector {
@@ -14,5 +16,12 @@ impl Vector {
         ensures { result ≡ record { x = x; y = y; z = z } }
     {
         Vector { x, y, z }
+    }
+}
+
+impl fmt::Display for Vector {
+    fn fmt<W: fmt::Write>(&self, f: &mut fmt::Formatter<W>) -> fmt::Result {
+        let Vector { x, y, z } = *self;
+        write!(f, "({x}, {y}, {z})")
     }
 }

@@ -1,8 +1,9 @@
 -- The numbers of triangles, faces, vertices and edges of a grid with r rows and c columns of cells.
 -- There are r + 1 rows and c + 1 columns of points.
 -- Assumes nothing.
-use Rattle.std.specs.Prelude.{ℕ, ◌+◌, ◌-◌, ◌*◌, ◌/◌, ◌%◌, ◌^◌, Bool, true, false, cond, ◌||◌, ◌==◌, nat_lt}
-use Rattle.utils.specs.Tables.{inside}
+use Rattle.std.specs.Prelude.{ℕ, ◌+◌, ◌-◌, ◌*◌, ◌/◌, ◌%◌, ◌^◌, Bool, true, false, cond, ◌||◌, ◌==◌, nat_lt, Some, None, Option}
+use Rattle.std.specs.Option.{option_or}
+use Rattle.utils.specs.Tables.{index_refusal}
 use Rattle.cells.specs.Cells.{rows_past, columns_past, corner, side}
 use Rattle.cells.specs.declared.cell.Corner.{Corner}
 use Rattle.cells.specs.declared.cell.Side.{Side}
@@ -10,11 +11,14 @@ use Rattle.cells.specs.declared.cell.Side.TheVariants.{Left, Right, Top, Bottom,
 use Rattle.cells.specs.declared.feature_id.FeatureId.{FeatureId}
 use Rattle.cells.specs.declared.feature_id.FeatureId.TheVariants.{Vertex, Edge, Face, Unknown}
 use Rattle.cells.specs.declared.vids.TriangleVids.{TriangleVids}
+use Rattle.utils.specs.declared.error.HeightFieldError.{HeightFieldError}
+use Rattle.utils.specs.declared.error.HeightFieldError.TheVariants.{TooFewPoints, TooManyPoints, InvalidLocalIndex}
 
--- the first check that a grid of that many rows and columns of points fails: 1 for too few, 2 for too many, 0 for none
-abbrev pub size_refusal : ℕ → ℕ → ℕ
+-- the first check that a grid of that many rows and columns of points fails: too few, then too many
+abbrev pub size_refusal : ℕ → ℕ → Option HeightFieldError
 size_refusal rows columns =
-    cond (nat_lt rows 2 || nat_lt columns 2) 1 (cond (nat_lt (2 ^ 24) rows || (nat_lt (2 ^ 24) columns || nat_lt (2 ^ 28) (rows * columns))) 2 0)
+    cond (nat_lt rows 2 || nat_lt columns 2) (Some TooFewPoints)
+    (cond (nat_lt (2 ^ 24) rows || (nat_lt (2 ^ 24) columns || nat_lt (2 ^ 28) (rows * columns))) (Some TooManyPoints) None)
 
 -- the left or the right triangle of the cell (i, j)
 abbrev pub triangle_number : ℕ → ℕ → ℕ → ℕ → Bool → ℕ
@@ -72,9 +76,13 @@ local_number (Edge k) = nat_lt k 3
 local_number (Face k) = true
 local_number Unknown = true
 
--- the first check that a conversion fails: 5 off the grid, then 7 for a local number above 2, 0 for none
-abbrev pub conversion_refusal : ℕ → ℕ → ℕ → ℕ → FeatureId → ℕ
-conversion_refusal r c i j fid = cond (inside r c i j) (cond (local_number fid) 0 7) 5
+-- of a local number above 2
+abbrev pub local_refusal : FeatureId → Option HeightFieldError
+local_refusal fid = cond (local_number fid) None (Some InvalidLocalIndex)
+
+-- the first check that a conversion fails: off the grid, then the local number
+abbrev pub conversion_refusal : ℕ → ℕ → ℕ → ℕ → FeatureId → Option HeightFieldError
+conversion_refusal r c i j fid = option_or (index_refusal r c i j) (local_refusal fid)
 
 -- the number in the whole grid of a triangle's own vertex, edge or face
 abbrev pub converted : ℕ → ℕ → Bool → ℕ → ℕ → Bool → FeatureId → FeatureId

@@ -52,20 +52,7 @@ Seam r c flags p q = (s : TriangleSide r c) × Joins flags s p q
 abbrev pub Carries : ℕ → ℕ → List ℕ → Point → Point → ℕ → Type 0
 Carries r c flags p q n = (s : TriangleSide r c) × (Joins flags s p q × ConvertsTo flags s n)
 
--- whatever the size and the flags: a seam carries a number, and no second one
-abbrev pub EachSeamCarriesOneNumber : Type 0
-EachSeamCarriesOneNumber =
-    (r c : ℕ) (flags : List ℕ) (p q : Point) → Seam r c flags p q
-    → (n : ℕ) × (Carries r c flags p q n × ((m : ℕ) → Carries r c flags p q m → m ≡ n))
-
--- whatever the size and the flags: two sides convert to equal numbers exactly when they join the same two points
-abbrev pub EqualNumbersJoinEqualPoints : Type 0
-EqualNumbersJoinEqualPoints =
-    (r c : ℕ) (flags : List ℕ) (s t : TriangleSide r c) (m n : ℕ) → ConvertsTo flags s m → ConvertsTo flags t n
-    → (m ≡ n → Joins flags s (point_at flags t t.which) (point_at flags t ((t.which + 1) % 3)))
-    × (Joins flags s (point_at flags t t.which) (point_at flags t ((t.which + 1) % 3)) → m ≡ n)
-
--- the same for one size and one list of flags: a seam carries a number, and no second one
+-- of one size and one list of flags: a seam carries a number, and no second one
 abbrev pub SeamsCarryOneNumber : ℕ → ℕ → List ℕ → Type 0
 SeamsCarryOneNumber r c flags =
     (p q : Point) → Seam r c flags p q
@@ -77,3 +64,10 @@ NumbersJoinPoints r c flags =
     (s t : TriangleSide r c) (m n : ℕ) → ConvertsTo flags s m → ConvertsTo flags t n
     → (m ≡ n → Joins flags s (point_at flags t t.which) (point_at flags t ((t.which + 1) % 3)))
     × (Joins flags s (point_at flags t t.which) (point_at flags t ((t.which + 1) % 3)) → m ≡ n)
+
+-- whatever the size and the flags
+abbrev pub EachSeamCarriesOneNumber : Type 0
+EachSeamCarriesOneNumber = (r c : ℕ) (flags : List ℕ) → SeamsCarryOneNumber r c flags
+
+abbrev pub EqualNumbersJoinEqualPoints : Type 0
+EqualNumbersJoinEqualPoints = (r c : ℕ) (flags : List ℕ) → NumbersJoinPoints r c flags

@@ -4,6 +4,7 @@ ghost use Rattle.numbering.specs.Numbers.{size_refusal};
 
 use utils::error::HeightFieldError;
 
+pub mod grid_cell;
 pub mod ids;
 
 /// The most rows, or columns, of points.

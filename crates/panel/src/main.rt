@@ -5,6 +5,7 @@ ghost use Rattle.std.specs.Prelude.{◌≤◌, length};
 
 use cells::feature_id::FeatureId;
 use cells::status::HeightFieldCellStatus;
+use hull_scan::{CELLS, COLUMNS, HEIGHTS, ROWS, SCALE};
 use math::aabb::Aabb;
 use math::vector::Vector;
 use points::cell_search::CellSearch;
@@ -15,29 +16,11 @@ use takers::band::height_band::HeightBand;
 use takers::cut_list::CutList;
 use takers::mark_sheet::MarkSheet;
 use utils::error::HeightFieldError;
-use walks::columns::HeightFieldTriangles;
-use walks::walk::Walk;
-
-/// The rows and columns of points of the scan.
-const ROWS: usize = 4;
-
-const COLUMNS: usize = 5;
-
-/// The heights of the scan in metres, one column of points after the other.
-const HEIGHTS: [f32; 20] = [
-    0.112, 0.1185, 0.121, 0.1195, 0.134, 0.142, 0.1465, 0.1435, 0.151, 0.1605, 0.166, 0.1625,
-    0.1425, 0.1515, 0.157, 0.1535, 0.119, 0.127, 0.1315, 0.129,
-];
+use walks::columns::methods::triangles;
 
 fn main(rt: HostRuntime) -> anyhow::Result<()> {
-    let mut flags = [0xff; 12];
-    let mut grid = HeightField::new(
-        ROWS,
-        COLUMNS,
-        &HEIGHTS,
-        &mut flags,
-        Vector::new(2.4, 1.0, 0.9),
-    )?;
+    let mut flags = [0xff; CELLS];
+    let mut grid = HeightField::new(ROWS, COLUMNS, &HEIGHTS, &mut flags, SCALE)?;
     describe(&rt, &grid)?;
     trim(&rt, &grid, &mut flags)?;
     numbers(&rt, &grid, &flags)?;
@@ -55,9 +38,7 @@ fn describe(rt: &HostRuntime, grid: &HeightField<'_>) -> anyhow::Result<()> {
     let (rows, columns) = grid.num_cells_ij();
     println!(rt; "The panel has {rows} rows and {columns} columns of cells.")?;
     let aabb = grid.root_aabb();
-    let (ax, ay, az) = (aabb.mins.x, aabb.mins.y, aabb.mins.z);
-    let (bx, by, bz) = (aabb.maxs.x, aabb.maxs.y, aabb.maxs.z);
-    println!(rt; "Its box runs from ({ax}, {ay}, {az}) to ({bx}, {by}, {bz}).")?;
+    println!(rt; "Its box runs from {} to {}.", aabb.mins, aabb.maxs)?;
     let (width, height) = (grid.cell_width(), grid.cell_height());
     let x = grid.x_at(1)?;
     println!(rt; "A cell is {width} wide and {height} high; column 1 starts at x = {x}.")?;
@@ -111,13 +92,13 @@ fn importer(rt: &HostRuntime, grid: &HeightField<'_>, flags: &[u8]) -> anyhow::R
         )?;
     }
     if let Some(triangle) = grid.triangle_at_id(flags, 7)? {
-        let (x, y, z) = (triangle.a.x, triangle.a.y, triangle.a.z);
-        println!(rt; "Triangle 7 starts at ({x}, {y}, {z}).")?;
+        println!(rt; "Triangle 7 starts at {}.", triangle.a)?;
     }
     Ok(())
 }
 
 /// Searches a box: lists its triangles, and measures and marks them.
+// The tables have fixed lengths, as those that a saw's controller lends.
 fn guard(rt: &HostRuntime, grid: &HeightField<'_>, flags: &[u8]) -> anyhow::Result<()> {
     let aabb = Aabb {
         mins: Vector::new(0.0, 0.0, -0.1),
@@ -167,12 +148,9 @@ fn list(
 
 /// Walks the panel column by column, as far as the third triangle.
 fn queue(rt: &HostRuntime, grid: &HeightField<'_>, flags: &[u8]) -> anyhow::Result<()> {
-    let mut walk = HeightFieldTriangles::new(grid, flags)?;
-    for place in 1..4u8 {
-        if let Some(triangle) = walk.next() {
-            let id = triangle.id;
-            println!(rt; "Triangle {id} is number {place} of the walk by columns.")?;
-        }
+    for (place, triangle) in (1..4u8).zip(triangles(grid, flags)?) {
+        let id = triangle.id;
+        println!(rt; "Triangle {id} is number {place} of the walk by columns.")?;
     }
     Ok(())
 }
@@ -181,13 +159,7 @@ fn queue(rt: &HostRuntime, grid: &HeightField<'_>, flags: &[u8]) -> anyhow::Resu
 fn count_kept(ids: &[u32], more: &[u32]) -> usize
     ensures { result ≤ length ids.now }
 {
-    let mut count = 0;
-    for id in ids {
-        if more.contains(id) {
-            count += 1;
-        }
-    }
-    count
+    ids.iter().filter(|&id| more.contains(id)).count()
 }
 
 /// Makes calls that are refused, and shows that nothing changed.

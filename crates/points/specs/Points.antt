@@ -1,10 +1,11 @@
 -- From a point or a box to cells of a grid.
 -- Assumes nothing.
 use Rattle.std.specs.Prelude.{ℕ, Bool, cond, ◌&&◌, ℤ, pos, ◌+ℤ◌, ◌-ℤ◌, Some, None, Option, is_nan, Float}
-use Rattle.std.specs.Float.Ieee.{div, neg, le}
+use Rattle.std.specs.Float.Ieee.{neg, le}
 use Rattle.std.specs.Int.{saturate_to_bits}
-use Rattle.std.specs.Float.{ratio_floor, ratio_ceil, binary32}
+use Rattle.std.specs.Float.{ratio_floor, ratio_ceil}
 use Rattle.math.specs.Constants.{half}
+use Rattle.math.specs.Lines.{unscaled_by}
 use Rattle.math.specs.declared.aabb.Aabb.{Aabb}
 use Rattle.math.specs.declared.vector.Vector.{Vector}
 use Rattle.quantize.specs.Quantize.{held64, position, floor_cell}
@@ -12,10 +13,10 @@ use Rattle.shape.specs.Grids.{Grid}
 
 -- a coordinate without the scale, along x and along z
 abbrev pub unscaled_x : Grid → Vector → Float
-unscaled_x g p = div binary32 p.x g.scale.x
+unscaled_x g p = unscaled_by g.scale.x p.x
 
 abbrev pub unscaled_z : Grid → Vector → Float
-unscaled_z g p = div binary32 p.z g.scale.z
+unscaled_z g p = unscaled_by g.scale.z p.z
 
 -- the row and the column of the cell at a point, or of the closest where none is
 abbrev pub closest_cell : Grid → Vector → ℕ × ℕ

@@ -93,10 +93,10 @@ reaches a b c d k D h r =
     let l : a * d ≤ k * b * d = omega (arith, mul-le-mul_right b r) in
     le_of_mul-le-mul_right l D
 
-raised_least : (a b k : ℕ) → 0 < b → a ≤ k * b → ratio_ceil a b ≤ k
+pub raised_least : (a b k : ℕ) → 0 < b → a ≤ k * b → ratio_ceil a b ≤ k
 raised_least a b k B h = let l : ratio_ceil a b < k + 1 = div_below (a + b - 1) b (k + 1) B (omega arith) in omega arith
 
-raised_reaches : (c d : ℕ) → 0 < d → c ≤ ratio_ceil c d * d
+pub raised_reaches : (c d : ℕ) → 0 < d → c ≤ ratio_ceil c d * d
 raised_reaches c d D = omega (arith, lt-div-mul-add {a = c + d - 1} D)
 
 pub raised_rises : (a b c d : ℕ) → 0 < b → 0 < d → a * d ≤ c * b → ratio_ceil a b ≤ ratio_ceil c d

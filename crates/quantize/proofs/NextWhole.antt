@@ -2,29 +2,24 @@
 -- not below: up to 2 ^ 24 a whole number is exactly a float, so `le` against it is an inequality of whole numbers, and
 -- the division gives the rest.
 -- Assumes nothing.
-use Rattle.std.proofs.Common.{ℕ, ◌+◌, ◌-◌, ◌*◌, ◌^◌, ◌<◌, ◌≤◌, Bool, true, false, T, ℤ, pos, sym, refl, subst, inl, inr, zero-le, le_of_lt, mul-le-mul_right, mul-le-mul_left, arith}
+use Rattle.std.proofs.Common.{ℕ, ◌*◌, ◌^◌, ◌<◌, ◌≤◌, Bool, true, false, T, ℤ, pos, sym, refl, subst, inl, inr, zero-le, le_of_lt, mul-le-mul_right, mul-le-mul_left, arith}
 use lib.Ieee.{Float, nan, inf, fin, binary32, up, down, le, of_int, is_nan}
 use lib.Ieee.Back.{round_whole}
 use lib.Ieee.Exact.{HasValue}
 use lib.Ieee.Fits.{down_pos}
 use native.Mathlib.Nat.{min-eq_left, min-eq_right}
 use Rattle.std.specs.Float.{ratio_floor, ratio_ceil}
-use Rattle.std.proofs.lemmas.Nat.{div-add-mod', div_below, le-div, mod_below}
+use Rattle.std.proofs.lemmas.Nat.{div-add-mod', le-div}
 use Rattle.std.proofs.lemmas.Bool.{cases_lt, true≢false}
 use Rattle.math.proofs.Order.{AtMost}
 use Rattle.quantize.specs.Quantize.{held, IsFloorHeld, IsCeilHeld, HeldNumbersAreNext}
+use Rattle.quantize.proofs.CellOrder.{raised_least, raised_reaches}
 use Rattle.quantize.proofs.FloatLe.{le→values, values→le, le_nan_right, le_inf_right, le_inf_left}
 
 -- ---- n / d cut and raised, for a d above 0
 
 cut_below : (n d k : ℕ) → 0 < d → k ≤ ratio_floor n d → k * d ≤ n
 cut_below n d k h l = omega (arith, mul-le-mul_right d l, div-add-mod' n d)
-
-raised_above : (n d : ℕ) → 0 < d → n ≤ ratio_ceil n d * d
-raised_above n d h = omega (arith, div-add-mod' (n + d - 1) d, mod_below (n + d - 1) d h)
-
-raised_least : (n d j : ℕ) → 0 < d → n ≤ j * d → ratio_ceil n d ≤ j
-raised_least n d j h l = let b = div_below (n + d - 1) d (j + 1) h (omega arith) in omega arith
 
 -- ---- a whole number and a finite float
 
@@ -126,7 +121,7 @@ module _ (top : ℕ) (small : top ≤ 2 ^ 24) where
             elim (cases_lt (ratio_ceil n d) top) [
               | inl l ↦
                   let above : n ≤ held ratio_ceil (fin false m e) top * d =
-                  rw (min-eq_left (le_of_lt l)) (raised_above n d (down_pos e)) in
+                  rw (min-eq_left (le_of_lt l)) (raised_reaches n d (down_pos e)) in
                   inr (at-most→le-whole false m e _ (omega arith) (omega arith))
               | inr l ↦ inl (min-eq_right l)
             ];

@@ -12,6 +12,7 @@ pub fn position(v: f32, width: f32) -> f32
 }
 
 /// The greatest whole number not above `x`, held to `0..=top`; 0 for a NaN.
+// Two roundings to two ranges: each of the four bodies is one call, which a function over the rounding would only lengthen.
 pub fn floor_held(x: f32, top: usize) -> usize
     ensures { result ≡ held ratio_floor x top }
 {

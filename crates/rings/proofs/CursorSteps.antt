@@ -1,11 +1,11 @@
 -- Asking a cursor: what it answers from what its search finds, and that this is the first of what is to come.
 -- Assumes nothing.
-use Rattle.std.proofs.Common.{◌≡◌, ℕ, ◌-◌, List, ◌++◌, Some, None, Option, sym, refl, ap, ◌∙◌, subst}
+use Rattle.std.proofs.Common.{◌≡◌, ℕ, ◌-◌, List, ◌++◌, None, Option, sym, ap, ◌∙◌, subst}
 use Rattle.math.specs.declared.vector.Vector.{Vector}
 use Rattle.points.specs.Points.{closest_cell}
 use Rattle.rings.proofs.AskingLaws.{asked_gives, all_to_come}
 use Rattle.rings.specs.Asking.{asked}
-use Rattle.rings.specs.Cursors.{RingCursor, fresh_cursor, rings_of, last_ring_of, asked_of, to_come_within}
+use Rattle.rings.specs.RingCursors.{RingCursor, fresh_cursor, rings_of, last_ring_of, asked_of, to_come_within}
 use Rattle.rings.specs.Reaches.{last_ring, rings_within}
 use Rattle.rings.specs.RingLists.{ring_of}
 use Rattle.rings.specs.declared.reach.Reach.{Reach}
@@ -18,12 +18,6 @@ module _ (g : Grid) (flags : List ℕ) (ci cj : ℕ) (reach : Reach) where
   -- the cursor that entered ring k last, of which xs is left
   abbrev at : ℕ → List NumberedTriangle → RingCursor
   at k xs = record { grid = g; flags = flags; row = ci; column = cj; ring = k; left = xs }
-
-  -- a triangle that waits is the answer
-  pub waiting_first :
-      (k : ℕ) (p : Option NumberedTriangle) (t : NumberedTriangle) (xs : List NumberedTriangle) → p ≡ Some t
-      → ◌≡◌ {A = Option NumberedTriangle × RingCursor} (Some t, at k xs) (asked_of (at k (option_to_list p ++ xs)) reach)
-  waiting_first k p t xs e = rw e refl
 
   -- where none waits, what was found is the answer
   pub found_next :

@@ -1,5 +1,4 @@
 pub mod AskingLaws
 pub mod CursorSteps
-pub mod FromOn
 pub mod RingSteps
 pub mod SideSteps

@@ -1,17 +1,15 @@
 -- Walking along a side of a ring: the part off the grid gives nothing.
 -- Assumes nothing.
-use Rattle.std.proofs.Common.{◌≡◌, ℕ, ◌+◌, ◌-◌, ◌<◌, ◌≤◌, max, true, false, ◌&&◌, ltb, leb, List, [], ◌++◌, is_some, None, Option, sym, refl, ap, ◌∙◌, append_assoc, arith}
+use Rattle.std.proofs.Common.{◌≡◌, ℕ, ◌+◌, ◌-◌, ◌<◌, ◌≤◌, max, true, false, ◌&&◌, ltb, leb, List, [], ◌++◌, sym, refl, ap, ◌∙◌, arith}
 use Rattle.std.proofs.lemmas.Bool.Decides.{nat_tests}
-use Rattle.rings.proofs.FromOn.{from_on_first, from_on_none, from_on_skip}
+use Rattle.search.proofs.FromOn.{from_on_first, from_on_none, from_on_skip}
 use Rattle.rings.specs.RingLists.{side_length, place_of, on_grid, place_list, side_from}
 use Rattle.rings.specs.Spans.{IsSpan}
 use Rattle.rings.specs.declared.place.RingSide.{RingSide}
 use Rattle.search.specs.BoxLists.{cell_list}
 use Rattle.search.specs.Triangles.{corners_at}
 use Rattle.shape.specs.Grids.{Grid}
-use Rattle.std.specs.Option.{option_to_list}
 use Rattle.takers.specs.declared.triangle.NumberedTriangle.{NumberedTriangle}
-use Rattle.walks.proofs.ColumnSteps.{none_found}
 
 before_span : (start end t : ℕ) → t < start → (leb start t && ltb t end) ≡ false
 before_span start end t h = grind (arith, nat_tests)
@@ -21,11 +19,6 @@ past_span start end t h = grind (arith, nat_tests)
 
 within_span : (start end t : ℕ) → start ≤ t → t < end → (leb start t && ltb t end) ≡ true
 within_span start end t h l = grind (arith, nat_tests)
-
--- where the first of two is none, and then so is the second
-pub none_first :
-    {X : Type 0} (a b : Option X) (xs : List X) → is_some a ≡ false → b ≡ None → option_to_list a ++ (option_to_list b ++ xs) ≡ xs
-none_first a b xs h e = rw (none_found a h, e) refl
 
 module _ (g : Grid) (flags : List ℕ) (ci cj k : ℕ) (side : RingSide) (start end : ℕ)
     (span : IsSpan (side_length k side) start end (λ t. on_grid g.rows g.columns k (place_of ci cj k side t))) where
@@ -54,15 +47,15 @@ module _ (g : Grid) (flags : List ℕ) (ci cj k : ℕ) (side : RingSide) (start 
       from_on_skip _ (side_length k side - step) step (side_length k side) empty
       ∙ from_on_none _ (step + (side_length k side - step)) (side_length k side) (omega arith)
 
-  -- one step of that part: the triangles a and b of its cell come first
+  -- one step of that part: the triangles of its cell come first
   pub side_step :
-      (step i j : ℕ) (a b : Option NumberedTriangle) → start ≤ step → step < end
+      (step i j : ℕ) (xs : List NumberedTriangle) → start ≤ step → step < end
       → ◌≡◌ {A = ℕ × ℕ} (i, j) ((place_of ci cj k side step).0 - k, (place_of ci cj k side step).1 - k)
-      → option_to_list a ++ option_to_list b ≡ cell_list g flags (corners_at g i j) i j
-      → side_from g flags ci cj k side step ≡ option_to_list a ++ (option_to_list b ++ side_from g flags ci cj k side (step + 1))
-  side_step step i j a b h l cell drawn =
+      → xs ≡ cell_list g flags (corners_at g i j) i j
+      → side_from g flags ci cj k side step ≡ xs ++ side_from g flags ci cj k side (step + 1)
+  side_step step i j xs h l cell drawn =
       let bound = span.ends in
       let p = place_of ci cj k side step in
-      let first : place_list g flags k p ≡ option_to_list a ++ option_to_list b =
+      let first : place_list g flags k p ≡ xs =
       rw (on_grid_lem step h l) (sym (drawn ∙ ap (λ q. cell_list g flags (corners_at g q.0 q.1) q.0 q.1) cell)) in
-      from_on_first _ step (side_length k side) (omega arith) ∙ rw (first, append_assoc) refl
+      from_on_first _ step (side_length k side) (omega arith) ∙ rw first refl

@@ -7,7 +7,6 @@ use Rattle.search.specs.BoxLists.{cell_list, from_on}
 use Rattle.search.specs.Triangles.{corners_at}
 use Rattle.shape.specs.Grids.{Grid}
 use Rattle.takers.specs.declared.triangle.NumberedTriangle.{NumberedTriangle}
-use Rattle.rings.specs.declared.place.RingPlace.{RingPlace}
 use Rattle.rings.specs.declared.place.RingSide.{RingSide}
 use Rattle.rings.specs.declared.place.RingSide.TheVariants.{RowRising, ColumnRising, RowFalling, ColumnFalling}
 
@@ -35,11 +34,11 @@ abbrev pub farthest_ring : ℕ → ℕ → ℕ → ℕ → ℕ
 farthest_ring r c ci cj = max (max ci (r - 1 - ci)) (max cj (c - 1 - cj))
 
 -- where the walk goes on after a side of ring k: at the next side, or at the next ring, if it is not past the last
-abbrev pub side_after : ℕ → RingSide → ℕ → Option RingPlace
-side_after k RowRising last = Some (record { ring = k; side = ColumnRising; step = 0 })
-side_after k ColumnRising last = Some (record { ring = k; side = RowFalling; step = 0 })
-side_after k RowFalling last = Some (record { ring = k; side = ColumnFalling; step = 0 })
-side_after k ColumnFalling last = cond (nat_lt k last) (Some (record { ring = k + 1; side = RowRising; step = 0 })) None
+abbrev pub side_after : ℕ → RingSide → ℕ → Option (ℕ × RingSide)
+side_after k RowRising last = Some (k, ColumnRising)
+side_after k ColumnRising last = Some (k, RowFalling)
+side_after k RowFalling last = Some (k, ColumnFalling)
+side_after k ColumnFalling last = cond (nat_lt k last) (Some (k + 1, RowRising)) None
 
 module _ (g : Grid) (flags : List ℕ) where
   -- the standing triangles of the cell at a place of ring k, the left one first; none off the grid

@@ -1,6 +1,6 @@
 #![tactic(auto)]
 
+pub mod cell_rings;
 pub mod place;
 pub mod radial;
 pub mod reach;
-mod spans;

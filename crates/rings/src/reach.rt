@@ -9,6 +9,7 @@ use quantize::held::ceil_held;
 use shape::heightfield3::HeightField;
 
 /// How far a walk around a point may go.
+// In an `Option<f32>` a missing distance would read as no reach at all.
 #[derive(Clone, Copy)]
 pub enum Reach {
     /// As far as the heightfield goes.

@@ -1,3 +1,4 @@
+pub mod FromOn
 pub mod Handing
 pub mod SubLists
 pub mod WiderBoxes

@@ -2,7 +2,7 @@
 -- Where the outer box misses the grid, so does the inner one; where it skips a cell, so does the inner one; and along
 -- either axis it begins no later and ends no earlier.
 -- Assumes nothing.
-use Rattle.std.proofs.Common.{◌≡◌, ℕ, ◌+◌, ◌^◌, ◌<◌, Bool, true, false, ◌||◌, T, List, refl, arith}
+use Rattle.std.proofs.Common.{None, ◌≡◌, ℕ, ◌+◌, ◌^◌, ◌<◌, Bool, true, false, ◌||◌, T, List, refl, arith}
 use lib.Ieee.{Float, nan, inf, fin, binary32, div, neg, lt, le, is_nan}
 use mathlib.Core.List.Sublistᴰ
 use mathlib.Core.List.{Sublistᴰ}
@@ -90,7 +90,7 @@ all_corners_imply g i j p q each h =
 module _
     (g : Grid) (some_rows : 0 < g.rows) (few_rows : g.rows < 2 ^ 24)
     (some_columns : 0 < g.columns) (few_columns : g.columns < 2 ^ 24)
-    (ranged : scale_refusal g.scale ≡ 0) (inner outer : Aabb) (within : Within inner outer) where
+    (ranged : scale_refusal g.scale ≡ None) (inner outer : Aabb) (within : Within inner outer) where
   low_x : T (le (unscaled_x g outer.mins) (unscaled_x g inner.mins))
   low_x = scaling_keeps_order outer.mins.x inner.mins.x g.scale.x (grind (arith, nat_tests)) within.low_x
 
@@ -148,7 +148,7 @@ module _
       (sublist_between _ _ (rows_sublist flags) _ _ _ _ (omega arith) (omega arith))
 
 pub wider_box :
-    (g : Grid) → 0 < g.rows → g.rows < 2 ^ 24 → 0 < g.columns → g.columns < 2 ^ 24 → scale_refusal g.scale ≡ 0
+    (g : Grid) → 0 < g.rows → g.rows < 2 ^ 24 → 0 < g.columns → g.columns < 2 ^ 24 → scale_refusal g.scale ≡ None
     → WiderBoxLosesNothing g
 wider_box g some_rows few_rows some_columns few_columns ranged flags inner outer within =
     ∣ box_sublist g some_rows few_rows some_columns few_columns ranged inner outer within flags ∣₁

@@ -1,10 +1,9 @@
 -- The triangles that a box search hands over, in order.
 -- Assumes nothing.
-use Rattle.std.specs.Prelude.{ℕ, zero, suc, ◌+◌, ◌-◌, Bool, true, false, cond, not, ◌&&◌, ◌||◌, List, [], ◌++◌, length, ◌==◌, Float}
+use Rattle.std.specs.Prelude.{ℕ, zero, suc, ◌+◌, ◌-◌, Bool, true, false, cond, not, ◌&&◌, ◌||◌, List, [], ◌++◌, Option, Float}
 use Rattle.std.specs.Float.{binary32}
 use Rattle.std.specs.Float.Ieee.{div, neg, lt, le}
-use Rattle.std.specs.Option.{option_map, option_to_list}
-use Rattle.utils.specs.Tables.{length_refusal}
+use Rattle.std.specs.Option.{is_none, option_map, option_to_list}
 use Rattle.math.specs.Constants.{half}
 use Rattle.math.specs.declared.aabb.Aabb.{Aabb}
 use Rattle.numbering.specs.Numbers.{triangle_number}
@@ -13,15 +12,18 @@ use Rattle.takers.specs.declared.triangle.NumberedTriangle.{NumberedTriangle}
 use Rattle.search.specs.Corners.{triangle_of}
 use Rattle.shape.specs.Grids.{Grid, height_at}
 use Rattle.points.specs.Points.{unscaled_x, unscaled_z}
-use Rattle.shape.specs.Tables.{pattern_at}
+use Rattle.shape.specs.Tables.{table_refusal, pattern_at}
 use Rattle.search.specs.Triangles.{box_corners_at}
 use Rattle.search.specs.declared.corners.CellCorners.{CellCorners}
 
--- the left or the right triangle of a cell with these corners, with its number, if it stands
+-- the left or the right triangle of a cell with these corners, with its number, if the cell has that pattern
+abbrev pub numbered_of : Grid → CellCorners → ℕ → ℕ → Bool → Option Bool → Option NumberedTriangle
+numbered_of g q i j left pattern =
+    option_map (λ z. record { id = triangle_number g.rows g.columns i j left; triangle = triangle_of q z left }) pattern
+
+-- the same, if it stands
 abbrev pub numbered_at : Grid → List ℕ → CellCorners → ℕ → ℕ → Bool → List NumberedTriangle
-numbered_at g flags q i j left =
-    option_to_list (option_map (λ z. record { id = triangle_number g.rows g.columns i j left; triangle = triangle_of q z left })
-    (pattern_at g.rows g.columns flags i j left))
+numbered_at g flags q i j left = option_to_list (numbered_of g q i j left (pattern_at g.rows g.columns flags i j left))
 
 -- the standing triangles of a cell with these corners, the left one first
 abbrev pub cell_list : Grid → List ℕ → CellCorners → ℕ → ℕ → List NumberedTriangle
@@ -83,4 +85,4 @@ box_list g flags b =
 
 -- what a search is handed: nothing where the status table has a wrong length
 abbrev pub visited : Grid → List ℕ → Aabb → List NumberedTriangle
-visited g flags b = cond (length_refusal g.rows g.columns (length flags) == 0) (box_list g flags b) []
+visited g flags b = cond (is_none (table_refusal g flags)) (box_list g flags b) []

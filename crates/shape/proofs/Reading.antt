@@ -1,36 +1,22 @@
--- The order of the checks of a conversion, and points off the grid.
+-- What is read of a point, on the grid or off it.
 -- Assumes nothing.
-use Rattle.std.proofs.Common.{◌≡◌, ℕ, zero, suc, ◌+◌, true, false, cond, List, length, refl, arith}
+use Rattle.std.proofs.Common.{◌≡◌, ℕ, ◌+◌, true, false, cond, List, slice_index_or, Ok, Err, Result, arith}
+use Rattle.std.specs.Result.{result_unwrap_or}
 use lib.Ieee.{Float, nan}
 use Rattle.std.proofs.lemmas.Bool.Decides.{nat_tests}
 use Rattle.utils.proofs.Errors.{refused}
-use Rattle.utils.specs.Errors.{error_number, or_else}
+use Rattle.utils.specs.Errors.{Answers}
 use Rattle.utils.specs.declared.error.HeightFieldError.{HeightFieldError}
-use Rattle.utils.specs.Tables.{inside, length_refusal, index_refusal}
-use Rattle.numbering.specs.Numbers.{conversion_refusal}
-use Rattle.cells.specs.declared.feature_id.FeatureId.{FeatureId}
-use Rattle.shape.specs.Tables.{status_refusal, convert_refusal}
+use Rattle.utils.specs.Tables.{place, inside, index_refusal}
 
--- where two checks in turn refuse nothing, neither does the second
-second_passes : (a b : ℕ) → or_else a b ≡ 0 → b ≡ 0
-second_passes zero b h = h
-second_passes (suc a) b h = absurd (omega arith)
-
--- where the status can be read, the conversion is refused for the local number alone
-pub local_refused :
-    (r c : ℕ) (flags : List ℕ) (i j : ℕ) (fid : FeatureId) (k : ℕ) → status_refusal r c flags i j ≡ 0
-    → k ≡ conversion_refusal r c i j fid → k ≡ convert_refusal r c flags i j fid
-local_refused r c flags i j fid k read h =
-    let off = second_passes (length_refusal r c (length flags)) (index_refusal r c i j) read in
-    let on : inside r c i j ≡ true = grind (arith, nat_tests) in
-    rw read (rw on at h)
-
--- a point off the grid has no height
-pub nan_outside :
-    (r c rows columns i j : ℕ) (y : Float) (e : HeightFieldError) → rows ≡ r + 1 → columns ≡ c + 1 → error_number e ≡ index_refusal rows columns i j
-    → nan ≡ cond (inside (r + 1) (c + 1) i j) y nan
-nan_outside r c rows columns i j y e p q number =
-    let n = refused e (error_number e) refl in
-    let off : inside rows columns i j ≡ false = grind (arith, nat_tests) in
-    let same : inside (r + 1) (c + 1) i j ≡ false = rw (p, q) at off in
-    rw same refl
+-- the height that a table gives, or NaN where it refuses
+pub height_read :
+    (r c rows columns i j : ℕ) (heights : List Float) (read : Result Float HeightFieldError) → rows ≡ r + 1 → columns ≡ c + 1
+    → Answers read (index_refusal rows columns i j) (λ x. (d : Float) → x ≡ slice_index_or heights (place rows i j) d)
+    → result_unwrap_or read nan ≡ cond (inside (r + 1) (c + 1) i j) (slice_index_or heights (place (r + 1) i j) nan) nan
+height_read r c rows columns i j heights (Ok y) p q answers =
+    let on : inside rows columns i j ≡ true = grind (arith, nat_tests, answers.0) in
+    rw (← p, ← q, on) (answers.1 nan)
+height_read r c rows columns i j heights (Err e) p q answers =
+    let off : inside rows columns i j ≡ false = let refusal = refused (index_refusal rows columns i j) e answers in grind (arith, nat_tests) in
+    rw (← p, ← q, off)

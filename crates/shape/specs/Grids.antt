@@ -1,8 +1,8 @@
 -- What a heightfield is, and what making and rescaling give.
 -- Assumes nothing.
-use Rattle.std.specs.Prelude.{◌≡◌, ℕ, ◌+◌, ◌-◌, cond, List, ◌==◌, slice_index_or, Float}
+use Rattle.std.specs.Prelude.{◌≡◌, ℕ, ◌+◌, ◌-◌, cond, List, slice_index_or, Option, Float}
 use Rattle.std.specs.Float.{nan}
-use Rattle.utils.specs.Errors.{or_else}
+use Rattle.std.specs.Option.{is_none, option_or}
 use Rattle.utils.specs.Tables.{place, inside, length_refusal}
 use Rattle.math.specs.Boxes.{box_of}
 use Rattle.math.specs.Heights.{lowest_of, highest_of}
@@ -11,6 +11,7 @@ use Rattle.math.specs.declared.aabb.Aabb.{Aabb}
 use Rattle.math.specs.declared.vector.Vector.{Vector}
 use Rattle.numbering.specs.Numbers.{size_refusal}
 use Rattle.shape.specs.declared.heightfield3.HeightField.{HeightField}
+use Rattle.utils.specs.declared.error.HeightFieldError.{HeightFieldError}
 
 -- rows and columns of cells, the heights of the points column after column, and what is kept of the heights and the scale
 pub record Grid : Type 0 where
@@ -60,15 +61,16 @@ rescaled g scale =
       box = box_of g.lowest g.highest scale;
     }
 
--- the first check that making fails, given the lengths of the heights and of the status table: 1, 2, 3 or 4, 0 for none
-abbrev pub making_refusal : ℕ → ℕ → ℕ → ℕ → Vector → ℕ
+-- the first check that making fails, given the lengths of the heights and of the status table: the
+-- size, either length, the scale
+abbrev pub making_refusal : ℕ → ℕ → ℕ → ℕ → Vector → Option HeightFieldError
 making_refusal rows columns points cells scale =
-    or_else (size_refusal rows columns)
-    (or_else (length_refusal rows columns points) (or_else (length_refusal (rows - 1) (columns - 1) cells) (scale_refusal scale)))
+    option_or (size_refusal rows columns)
+    (option_or (length_refusal rows columns points) (option_or (length_refusal (rows - 1) (columns - 1) cells) (scale_refusal scale)))
 
 -- the grid after a rescaling: as it was where the scale is refused
 abbrev pub rescaling_leaves : Grid → Vector → Grid
-rescaling_leaves g scale = cond (scale_refusal scale == 0) (rescaled g scale) g
+rescaling_leaves g scale = cond (is_none (scale_refusal scale)) (rescaled g scale) g
 
 -- rescaling a grid gives what making it under the new scale gives
 abbrev pub RescalingIsMaking : Type 0

@@ -1,3 +1,3 @@
+pub mod Flagged
 pub mod Grids
-pub mod LineRanges
 pub mod Tables

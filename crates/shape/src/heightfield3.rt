@@ -1,4 +1,4 @@
-ghost use Rattle.std.specs.Prelude.{◌≡◌, ◌+◌};
+ghost use Rattle.std.specs.Prelude.{◌≡◌, ◌+◌, None};
 ghost use Rattle.math.specs.Scales.{scale_refusal};
 
 use math::aabb::Aabb;
@@ -6,7 +6,9 @@ use math::vector::Vector;
 use numbering::size::GridSize;
 use utils::array2::Array2;
 
+pub mod flagged;
 pub mod flags;
+pub mod has_grid;
 pub mod lines;
 pub mod making;
 pub mod numbers;
@@ -14,6 +16,7 @@ pub mod numbers;
 /// A 3D heightfield over the caller's heights.
 ///
 /// The table of cell statuses is no part of it: each call that reads or sets one is handed the table.
+// No `Model`: the laws take the facts below from a grid's fields.
 #[derive(Drop)]
 pub struct HeightField<'d> {
     heights: Array2<'d, f32>,
@@ -24,5 +27,5 @@ pub struct HeightField<'d> {
     aabb: Aabb,
     ghost rows: { heights.nrows ≡ size.nrows + 1 },
     ghost columns: { heights.ncols ≡ size.ncols + 1 },
-    ghost ranged: { scale_refusal scale ≡ 0 },
+    ghost ranged: { scale_refusal scale ≡ None },
 }

@@ -1,10 +1,12 @@
 -- What takers add up.
 -- Assumes nothing.
-use Rattle.std.specs.Prelude.{ℕ, ◌+◌, ◌-◌, ◌*◌, ◌^◌, min, cond, T, List, length, nat_lt, slice_set}
+use Rattle.std.specs.Prelude.{ℕ, ◌+◌, ◌-◌, ◌*◌, ◌^◌, min, cond, T, List, length, nat_lt, slice_set, Some, None, Option}
 use Rattle.std.specs.Float.{binary32}
 use Rattle.std.specs.Float.Ieee.{fits}
 use Rattle.math.specs.declared.vector.Vector.{Vector}
 use Rattle.takers.specs.declared.triangle.NumberedTriangle.{NumberedTriangle}
+use Rattle.utils.specs.declared.error.HeightFieldError.{HeightFieldError}
+use Rattle.utils.specs.declared.error.HeightFieldError.TheVariants.{BufferTooShort}
 
 -- the coordinates are values of f32, as those of every triangle of the program are
 abbrev pub IsVector : Vector → Type 0
@@ -17,9 +19,9 @@ IsTriangle t = IsVector t.triangle.a × (IsVector t.triangle.b × IsVector t.tri
 abbrev pub counted : ℕ → ℕ
 counted n = min (n + 1) (2 ^ 32 - 1)
 
--- 8 where a sheet of that many bytes has fewer than a grid of r rows and c columns of cells has triangles, else 0
-abbrev pub sheet_refusal : ℕ → ℕ → ℕ → ℕ
-sheet_refusal r c len = cond (nat_lt len (2 * (r * c))) 8 0
+-- of a sheet of that many bytes, where a grid of r rows and c columns of cells has more triangles
+abbrev pub sheet_refusal : ℕ → ℕ → ℕ → Option HeightFieldError
+sheet_refusal r c len = cond (nat_lt len (2 * (r * c))) (Some BufferTooShort) None
 
 -- a list of numbers: the table, how many of its places are filled, and how many numbers found no place
 pub record Listed : Type 0 where

@@ -5,6 +5,7 @@ use crate::taker::Taker;
 use crate::triangle::NumberedTriangle;
 
 /// Lists the numbers of the triangles that come up, as many as the caller's table holds, and counts the rest.
+// The filled part has its length beside it, for the table is the caller's: takers allocate nothing.
 #[derive(Drop)]
 pub struct CutList<'a> {
     ids: &'a mut [u32],

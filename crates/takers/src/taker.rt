@@ -19,6 +19,7 @@ pub trait Taker {
     ghost place: { Self → ℕ };
 
     /// Adds one triangle.
+    // A call that hands over a list states both clauses of it: one name for the two would take all four members as arguments.
     fn add(&mut self, triangle: NumberedTriangle)
         ensures added { total self.new ≡ adds (total self.old) triangle }
         ensures lender { place self.new ≡ place self.old };

@@ -1,6 +1,6 @@
 -- The number of each refusal, and what a call that may be refused answers.
 -- Assumes nothing.
-use Rattle.std.specs.Prelude.{◌≡◌, ℕ, zero, suc, Ok, Err, Result}
+use Rattle.std.specs.Prelude.{◌≡◌, ℕ, Ok, Err, Result, Some, None, Option}
 use Rattle.utils.specs.declared.error.HeightFieldError.{HeightFieldError}
 use Rattle.utils.specs.declared.error.HeightFieldError.TheVariants.{TooFewPoints, TooManyPoints, LengthMismatch, ScaleOutOfRange, IndexOutOfRange, InvalidStatus, InvalidLocalIndex, BufferTooShort}
 
@@ -14,12 +14,12 @@ error_number InvalidStatus = 6
 error_number InvalidLocalIndex = 7
 error_number BufferTooShort = 8
 
--- The value that P describes where no check refuses (k is 0), else the refusal whose number is k.
-abbrev pub Answers : {X : Type 0} → Result X HeightFieldError → ℕ → (X → Type 0) → Type 0
-Answers (Ok x) k P = (k ≡ 0) × P x
-Answers (Err e) k P = error_number e ≡ k
+-- the same of a refusal that there may be: 0 where there is none
+abbrev pub refusal_number : Option HeightFieldError → ℕ
+refusal_number None = 0
+refusal_number (Some e) = error_number e
 
--- the first refusal of two checks in turn: the second counts where the first refuses nothing
-abbrev pub or_else : ℕ → ℕ → ℕ
-or_else zero k = k
-or_else (suc n) k = suc n
+-- The value that P describes where no check refuses, else the refusal, by its number.
+abbrev pub Answers : {X : Type 0} → Result X HeightFieldError → Option HeightFieldError → (X → Type 0) → Type 0
+Answers (Ok x) refusal P = (refusal ≡ None) × P x
+Answers (Err e) refusal P = error_number e ≡ refusal_number refusal

@@ -4,17 +4,17 @@ ghost use Rattle.utils.specs.Errors.{error_number};
 use std::error::Error;
 use std::fmt;
 
-/// Why a call was refused.
+/// Why a call was refused, with the number by which the refusal is reported.
 #[derive(Clone, Copy, PartialEq, Eq, Debug)]
 pub enum HeightFieldError {
-    TooFewPoints,
-    TooManyPoints,
-    LengthMismatch,
-    ScaleOutOfRange,
-    IndexOutOfRange,
-    InvalidStatus,
-    InvalidLocalIndex,
-    BufferTooShort,
+    TooFewPoints = 1,
+    TooManyPoints = 2,
+    LengthMismatch = 3,
+    ScaleOutOfRange = 4,
+    IndexOutOfRange = 5,
+    InvalidStatus = 6,
+    InvalidLocalIndex = 7,
+    BufferTooShort = 8,
 }
 
 impl HeightFieldError {
@@ -22,16 +22,7 @@ impl HeightFieldError {
     pub fn number(self) -> u8
         ensures { result ≡ error_number self }
     {
-        match self {
-            HeightFieldError::TooFewPoints => 1,
-            HeightFieldError::TooManyPoints => 2,
-            HeightFieldError::LengthMismatch => 3,
-            HeightFieldError::ScaleOutOfRange => 4,
-            HeightFieldError::IndexOutOfRange => 5,
-            HeightFieldError::InvalidStatus => 6,
-            HeightFieldError::InvalidLocalIndex => 7,
-            HeightFieldError::BufferTooShort => 8,
-        }
+        self as u8
     }
 }
 

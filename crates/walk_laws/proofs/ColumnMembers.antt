@@ -1,6 +1,6 @@
 -- The column list holds each standing triangle once, and all rings round a cell hold the same triangles.
 -- Assumes nothing.
-use Rattle.std.proofs.Common.{◌≡◌, ℕ, ◌+◌, ◌-◌, ◌*◌, ◌/◌, ◌%◌, ◌<◌, Bool, eqb, List, sym, arith}
+use Rattle.std.proofs.Common.{◌≡◌, ℕ, ◌+◌, ◌-◌, ◌*◌, ◌/◌, ◌%◌, ◌<◌, Bool, true, false, eqb, List, sym, arith}
 use mathlib.Core.Path.{subst₃}
 use Rattle.std.proofs.lemmas.Nat.{div-add-mod', div-mul-add, mod-mul-add}
 use Rattle.std.proofs.lemmas.Bool.Decides.{nat_tests}
@@ -13,8 +13,12 @@ use Rattle.walk_laws.proofs.WalkedCells.{Stands, HoldsCells, one_triangle, stand
 use Rattle.walk_laws.specs.RingNumbers.{RingsAreColumnsInAnotherOrder}
 use Rattle.walk_laws.specs.Walked.{ColumnsHoldEachOnce}
 use Rattle.walks.proofs.ColumnSteps.{slot_lt}
-use Rattle.walks.specs.ColumnLists.{column_list, slots, side_of, slot_of}
-use Rattle.walks.specs.declared.place.Place.{Place}
+use Rattle.walks.specs.ColumnLists.{column_list, slots, first_slot}
+
+-- the slots of a cell after its first
+abbrev side_of : Bool → ℕ
+side_of true = 0
+side_of false = 1
 
 -- the cell and the side of a slot tell its number, and are told by it
 parts_tell_slot :
@@ -48,12 +52,11 @@ module _ (g : Grid) (flags : List ℕ) where
       (λ t (k, l, m, s).
       record { row = k / 2 % g.rows; column = k / 2 / g.rows; left = eqb (k % 2) 0; stands = s.0; within = tt; is = s.1 })
       (λ t s.
-      let p : Place = record { i = s.row; j = s.column; left = s.left } in
       let inside = standing_inside g flags s.row s.column s.left s.stands in
       let parts = slot_tells_parts g.rows s.row s.column s.left inside.0 in (
-        slot_of g p,
+        first_slot g s.row s.column + side_of s.left,
         omega arith,
-        omega (arith, slot_lt g p inside.0 inside.1),
+        grind (arith, slot_lt g flags s.row s.column inside.0 inside.1),
         subst₃ (λ i j left. Stands g flags i j left t) (sym parts.0) (sym parts.1) (sym parts.2) (s.stands, s.is),
       ))
       (holds_from_on (λ t. t.id) slots_differ 0 (slots g - 0) (λ k l m. one_triangle g flags _ _ _))

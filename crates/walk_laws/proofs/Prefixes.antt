@@ -1,12 +1,13 @@
 -- A shorter reach gives the beginning of a longer one's list, and what a cursor gives begins the list of all rings.
 -- Assumes nothing.
-use Rattle.std.proofs.Common.{◌≡◌, ℕ, ◌+◌, ◌-◌, ◌^◌, ◌<◌, ◌≤◌, List, [], ◌∷◌, ◌++◌, sym, refl, ap, ◌∙◌, subst, append_assoc, arith}
+use Rattle.std.proofs.Common.{None, ◌≡◌, ℕ, ◌+◌, ◌-◌, ◌^◌, ◌<◌, ◌≤◌, List, [], ◌∷◌, ◌++◌, sym, refl, ap, ◌∙◌, subst, append_assoc, arith}
 use mathlib.Core.List.{IsPrefix}
 use Rattle.math.specs.Scales.{scale_refusal}
-use Rattle.rings.proofs.AskingLaws.{asked_begins, all_to_come}
-use Rattle.rings.proofs.FromOn.{from_on_add}
+use Rattle.rings.proofs.AskingLaws.{asked_begins, all_to_come, none_leaves_all}
+use Rattle.search.proofs.FromOn.{from_on_add}
 use Rattle.rings.specs.Asking.{asked, to_come}
 use Rattle.rings.specs.Reaches.{last_ring}
+use Rattle.rings.specs.RingCursors.{rings_of, last_ring_of}
 use Rattle.rings.specs.RingLists.{farthest_ring, ring_of}
 use Rattle.rings.specs.declared.reach.Reach.{Reach}
 use Rattle.search.specs.BoxLists.{from_on}
@@ -14,7 +15,7 @@ use Rattle.shape.specs.Grids.{Grid}
 use Rattle.std.specs.Option.{option_to_list}
 use Rattle.takers.specs.declared.triangle.NumberedTriangle.{NumberedTriangle}
 use Rattle.walk_laws.proofs.ReachOrder.{allowed_rises}
-use Rattle.walk_laws.specs.Reaching.{given, ShorterReachBegins, GivenBeginsAllRings}
+use Rattle.walk_laws.specs.Reaching.{given, ShorterReachBegins, GivenBeginsAllRings, NoneLeavesAll}
 
 -- fewer rings are a beginning of more
 fewer_begin : {X : Type 0} (f : ℕ → List X) (k m n : ℕ) → m ≤ n → IsPrefix (from_on f k m) (from_on f k n)
@@ -23,7 +24,7 @@ fewer_begin f k m n h =
     (from_on f (k + m) (n - m), sym (rw e at (from_on_add f k m (n - m))))
 
 pub shorter_reach :
-    (g : Grid) → 0 < g.rows → g.rows < 2 ^ 24 → 0 < g.columns → g.columns < 2 ^ 24 → scale_refusal g.scale ≡ 0
+    (g : Grid) → 0 < g.rows → g.rows < 2 ^ 24 → 0 < g.columns → g.columns < 2 ^ 24 → scale_refusal g.scale ≡ None
     → ShorterReachBegins g
 shorter_reach g some_rows few_rows some_columns few_columns ranged flags ci cj shorter longer h =
     let l = allowed_rises g some_rows few_rows some_columns few_columns ranged shorter longer h in
@@ -49,3 +50,6 @@ given_begins_all g flags ci cj reaches =
     subst (IsPrefix (given g flags ci cj reaches 0 (ring_of g flags ci cj 0)))
     (all_to_come (ring_of g flags ci cj) (farthest_ring g.rows g.columns ci cj))
     (given_begins g flags ci cj reaches 0 (ring_of g flags ci cj 0))
+
+pub none_leaves : NoneLeavesAll
+none_leaves w reach later none = none_leaves_all (rings_of w) (last_ring_of w reach) w.ring w.left (last_ring_of w later) none

@@ -1,7 +1,7 @@
 -- A longer reach allows no fewer rings. A cell is no wider than 2 ^ 20, so the largest finite distance, which means unlimited, spans as
 -- many cells as are counted, and so does every distance past it.
 -- Assumes nothing.
-use Rattle.std.proofs.Common.{◌≡◌, ℕ, ◌^◌, ◌<◌, ◌≤◌, true, false, T, pos, refl, subst, arith}
+use Rattle.std.proofs.Common.{None, ◌≡◌, ℕ, ◌^◌, ◌<◌, ◌≤◌, true, false, T, pos, refl, subst, arith}
 use lib.Ieee.{Float, nan, inf, fin, binary32, mul, div, le, eq, of_bits, of_int}
 use lib.Ieee.Fits.{and_l, and_r}
 use lib.Ieee.Positive.{positive, between, mul_mono}
@@ -114,7 +114,7 @@ allowed_most g (Distance d) =
 module _
     (g : Grid) (some_rows : 0 < g.rows) (few_rows : g.rows < 2 ^ 24)
     (some_columns : 0 < g.columns) (few_columns : g.columns < 2 ^ 24)
-    (ranged : scale_refusal g.scale ≡ 0) where
+    (ranged : scale_refusal g.scale ≡ None) where
   pub allowed_rises : (shorter longer : Reach) → NoLonger shorter longer → allowed g shorter ≤ allowed g longer
   allowed_rises (Distance d) (Distance e) h =
       let x_ranged : T (in_range g.scale.x) = grind (arith, nat_tests) in

@@ -1,5 +1,5 @@
 ghost use Rattle.shape.specs.Grids.{grid_of};
-ghost use Rattle.walk_laws.specs.Reaching.{ShorterReachBegins, GivenBeginsAllRings};
+ghost use Rattle.walk_laws.specs.Reaching.{ShorterReachBegins, GivenBeginsAllRings, NoneLeavesAll};
 ghost use Rattle.walk_laws.specs.RingNumbers.{RingsHoldEachOnce, RingsAreColumnsInAnotherOrder};
 ghost use Rattle.walk_laws.specs.SharedVertices.{SharedVerticesAreInOneSpot};
 ghost use Rattle.walk_laws.specs.Walked.{ColumnsHoldEachOnce};
@@ -18,11 +18,12 @@ pub fn rings_hold_each_once(_grid: &HeightField<'_>)
     ensures order { RingsAreColumnsInAnotherOrder (grid_of _grid.now) }
 {}
 
-/// A shorter reach gives the beginning of a longer one's list, and whatever reach each call brings, what came so far begins the list of
-/// all rings. Nothing is computed: the contract is the statement.
+/// A shorter reach gives the beginning of a longer one's list; whatever reach each call brings, what came so far begins the list of all
+/// rings; and after none the same is to come as before. Nothing is computed: the contract is the statement.
 pub fn shorter_reach_begins(_grid: &HeightField<'_>)
     ensures shorter { ShorterReachBegins (grid_of _grid.now) }
     ensures given { GivenBeginsAllRings (grid_of _grid.now) }
+    ensures stays { NoneLeavesAll }
 {}
 
 /// Walked triangles that share a vertex number share its coordinates, under one scale and any statuses. Nothing is computed: the

@@ -1,2 +1,2 @@
 pub mod ColumnSteps
-pub mod Drawing
+pub mod Progress

@@ -1,11 +1,10 @@
 -- The column list of a grid: its standing triangles, column after column, rows rising, the left one of a cell first.
 -- Assumes nothing.
-use Rattle.std.specs.Prelude.{ℕ, ◌+◌, ◌-◌, ◌*◌, ◌/◌, ◌%◌, Bool, true, false, List, ◌==◌}
+use Rattle.std.specs.Prelude.{ℕ, ◌+◌, ◌-◌, ◌*◌, ◌/◌, ◌%◌, Bool, List, ◌==◌}
 use Rattle.search.specs.BoxLists.{numbered_at, from_on}
 use Rattle.search.specs.Triangles.{corners_at}
 use Rattle.shape.specs.Grids.{Grid}
 use Rattle.takers.specs.declared.triangle.NumberedTriangle.{NumberedTriangle}
-use Rattle.walks.specs.declared.place.Place.{Place}
 
 -- the triangle of a cell on the left or the right, as it is drawn by its own lines, if it stands
 abbrev pub drawn_at : Grid → List ℕ → ℕ → ℕ → Bool → List NumberedTriangle
@@ -26,10 +25,6 @@ columns_from g flags k = from_on (column_slot g flags) k (slots g - k)
 abbrev pub column_list : Grid → List ℕ → List NumberedTriangle
 column_list g flags = columns_from g flags 0
 
--- which of all triangles a place is
-abbrev pub side_of : Bool → ℕ
-side_of true = 0
-side_of false = 1
-
-abbrev pub slot_of : Grid → Place → ℕ
-slot_of g p = 2 * (p.j * g.rows + p.i) + side_of p.left
+-- which of all triangles is the left one of a cell
+abbrev pub first_slot : Grid → ℕ → ℕ → ℕ
+first_slot g i j = 2 * (j * g.rows + i)

@@ -1,3 +1,4 @@
 pub mod ColumnLists
 pub mod ColumnWalks
+pub mod Standing
 pub mod Walks

@@ -2,5 +2,5 @@
 
 pub mod columns;
 pub mod numbered;
-pub mod place;
+pub mod standing;
 pub mod walk;

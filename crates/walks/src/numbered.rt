@@ -1,14 +1,18 @@
-ghost use Rattle.std.specs.Prelude.{◌≡◌, true, false, length, if◌then◌else◌, None};
+ghost use Rattle.std.specs.Prelude.{◌≡◌, true, false};
+ghost use Rattle.shape.specs.Flagged.{grid_in, flags_in};
 ghost use Rattle.shape.specs.Grids.{grid_of};
-ghost use Rattle.numbering.specs.Numbers.{triangle_number};
-ghost use Rattle.std.specs.Option.{option_map, option_to_list};
+ghost use Rattle.shape.specs.Tables.{table_refusal};
+ghost use Rattle.std.specs.Option.{option_to_list};
+ghost use Rattle.search.specs.BoxLists.{cell_list};
+ghost use Rattle.search.specs.Triangles.{corners_at};
 ghost use Rattle.utils.specs.Errors.{Answers};
-ghost use Rattle.utils.specs.Tables.{inside, length_refusal};
 ghost use Rattle.walks.specs.ColumnLists.{drawn_at};
+ghost use Rattle.walks.specs.Standing.{standing_list};
 
-use math::triangle::Triangle;
-use search::triangles::Triangles;
+use crate::standing::Standing;
+use search::triangles::{corners_at, numbered};
 use shape::heightfield3::HeightField;
+use shape::heightfield3::flagged::FlaggedHeightField;
 use takers::triangle::NumberedTriangle;
 use utils::error::HeightFieldError;
 
@@ -19,30 +23,41 @@ pub fn numbered_triangles_at(
     i: usize,
     j: usize,
 ) -> Result<(Option<NumberedTriangle>, Option<NumberedTriangle>), HeightFieldError>
-    ensures { let g = grid_of grid.now in Answers result (length_refusal g.rows g.columns (length flags.now)) (λ v. (option_to_list v.0 ≡ drawn_at g flags.now i j true) × (option_to_list v.1 ≡ drawn_at g flags.now i j false)) }
+    ensures { let g = grid_of grid.now in Answers result (table_refusal g flags.now) (λ v. (option_to_list v.0 ≡ drawn_at g flags.now i j true) × (option_to_list v.1 ≡ drawn_at g flags.now i j false)) }
 {
-    let (left, right) = grid.triangles_at(flags, i, j)?;
-    Ok((
-        numbered(grid, i, j, true, left),
-        numbered(grid, i, j, false, right),
-    ))
+    let field = grid.with_flags(flags)?;
+    Ok(numbered_pair_at(&field, i, j))
 }
 
-/// A left or right triangle of the cell `(i, j)` with its number; none for none, and off this heightfield.
-fn numbered(
-    grid: &HeightField<'_>,
+/// The standing triangles of the cell `(i, j)`, if it has any.
+pub fn standing_at(field: &FlaggedHeightField<'_, '_, '_>, i: usize, j: usize) -> Option<Standing>
+    ensures { let g = grid_in field.now in standing_list result ≡ cell_list g (flags_in field.now) (corners_at g i j) i j }
+{
+    match numbered_pair_at(field, i, j) {
+        (Some(first), second) => Some(Standing { first, second }),
+        (None, Some(first)) => Some(Standing {
+            first,
+            second: None,
+        }),
+        (None, None) => None,
+    }
+}
+
+/// The left and the right triangle of a cell with their numbers, each if it stands.
+fn numbered_pair_at(
+    field: &FlaggedHeightField<'_, '_, '_>,
     i: usize,
     j: usize,
-    left: bool,
-    triangle: Option<Triangle>,
-) -> Option<NumberedTriangle>
-    ensures { let g = grid_of grid.now in result ≡ (if inside g.rows g.columns i j then option_map (λ t. record { id = triangle_number g.rows g.columns i j left; triangle = t }) triangle else None) }
+) -> (Option<NumberedTriangle>, Option<NumberedTriangle>)
+    ensures left { option_to_list result.0 ≡ drawn_at (grid_in field.now) (flags_in field.now) i j true }
+    ensures right { option_to_list result.1 ≡ drawn_at (grid_in field.now) (flags_in field.now) i j false }
 {
-    let Ok(id) = grid.size().triangle_id(i, j, left) else {
-        return None;
+    let Ok(cell) = field.cell(i, j) else {
+        return (None, None);
     };
-    let Some(triangle) = triangle else {
-        return None;
-    };
-    Some(NumberedTriangle { id, triangle })
+    let corners = corners_at(&cell);
+    (
+        numbered(&cell, &corners, true),
+        numbered(&cell, &corners, false),
+    )
 }

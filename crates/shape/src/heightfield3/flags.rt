@@ -1,8 +1,7 @@
-ghost use Rattle.std.specs.Prelude.{◌≡◌, ◌<◌, length, OnSome};
-ghost use Rattle.utils.specs.Tables.{length_refusal};
+ghost use Rattle.std.specs.Prelude.{◌≡◌, ◌<◌, OnSome};
 ghost use Rattle.utils.specs.Errors.{Answers};
 ghost use Rattle.shape.specs.Grids.{grid_of};
-ghost use Rattle.shape.specs.Tables.{byte_at, status_refusal, setting_refusal, setting_leaves, pattern_at};
+ghost use Rattle.shape.specs.Tables.{byte_at, status_refusal, setting_refusal, setting_leaves, table_refusal, pattern_at};
 
 use super::HeightField;
 use cells::status::HeightFieldCellStatus;
@@ -19,9 +18,8 @@ impl HeightField<'_> {
     ) -> Result<HeightFieldCellStatus, HeightFieldError>
         ensures { let g = grid_of self.now in Answers result (status_refusal g.rows g.columns flags.now i j) (λ s. s.0 ≡ byte_at g.rows flags.now i j) }
     {
-        let table = Array2::new(self.nrows(), self.ncols(), flags)?;
-        let bits = table.get(i, j)?;
-        Ok(HeightFieldCellStatus::from_bits_retain(bits))
+        let cell = self.with_flags(flags)?.cell(i, j)?;
+        Ok(cell.status())
     }
 
     /// Set the status of the `(i, j)`-th cell.
@@ -50,16 +48,11 @@ impl HeightField<'_> {
         j: usize,
         left: bool,
     ) -> Result<Option<bool>, HeightFieldError>
-        ensures { let g = grid_of self.now in Answers result (length_refusal g.rows g.columns (length flags.now)) (λ o. (o ≡ pattern_at g.rows g.columns flags.now i j left) × OnSome o ((i < g.rows) × (j < g.columns))) }
+        ensures { let g = grid_of self.now in Answers result (table_refusal g flags.now) (λ o. (o ≡ pattern_at g.rows g.columns flags.now i j left) × OnSome o ((i < g.rows) × (j < g.columns))) }
     {
-        let table = Array2::new(self.nrows(), self.ncols(), flags)?;
-        let Ok(bits) = table.get(i, j) else {
+        let Ok(cell) = self.with_flags(flags)?.cell(i, j) else {
             return Ok(None);
         };
-        let status = HeightFieldCellStatus::from_bits_retain(bits);
-        if status.is_removed(left) {
-            return Ok(None);
-        }
-        Ok(Some(status.is_zigzag()))
+        Ok(cell.pattern(left))
     }
 }

@@ -1,4 +1,5 @@
-ghost use Rattle.std.specs.Prelude.{◌≡◌, length, replicate, if◌then◌else◌, nat_eq};
+ghost use Rattle.std.specs.Prelude.{◌≡◌, length, replicate, if◌then◌else◌};
+ghost use Rattle.std.specs.Option.{is_none};
 ghost use Rattle.utils.specs.Errors.{Answers};
 ghost use Rattle.math.specs.Scales.{scale_refusal};
 ghost use Rattle.shape.specs.Grids.{grid_of, made, making_refusal, rescaling_leaves, RescalingIsMaking};
@@ -6,7 +7,7 @@ ghost use Rattle.shape.specs.Grids.{grid_of, made, making_refusal, rescaling_lea
 use super::HeightField;
 use math::aabb::heightfield_aabb;
 use math::heights;
-use math::scale::{check_scale, is_scale};
+use math::scale::check_scale;
 use math::vector::Vector;
 use numbering::size::GridSize;
 use utils::array2::Array2;
@@ -27,20 +28,16 @@ impl<'d> HeightField<'d> {
         scale: Vector,
     ) -> Result<HeightField<'d>, HeightFieldError>
         ensures answer { Answers result (making_refusal nrows ncols (length heights_zx.now) (length flags.old) scale) (λ g. grid_of g ≡ made nrows ncols heights_zx.now scale) }
-        ensures cleared { flags.new ≡ (if nat_eq (making_refusal nrows ncols (length heights_zx.now) (length flags.old) scale) 0 then replicate (length flags.old) 0 else flags.old) }
+        ensures cleared { flags.new ≡ (if is_none (making_refusal nrows ncols (length heights_zx.now) (length flags.old) scale) then replicate (length flags.old) 0 else flags.old) }
     {
         let size = GridSize::new(nrows, ncols)?;
         let heights = Array2::new(nrows, ncols, heights_zx)?;
-        if flags.len() != size.nrows() * size.ncols() {
-            return Err(HeightFieldError::LengthMismatch);
-        }
-        if !is_scale(scale) {
-            return Err(HeightFieldError::ScaleOutOfRange);
-        }
+        Array2::new(size.nrows(), size.ncols(), &*flags)?;
+        check_scale(scale)?;
         let lowest = heights::lowest(heights_zx);
         let highest = heights::highest(heights_zx);
         let aabb = heightfield_aabb(lowest, highest, scale);
-        clear(flags);
+        flags.fill(0);
         Ok(HeightField {
             heights,
             size,
@@ -67,12 +64,3 @@ impl<'d> HeightField<'d> {
 pub fn rescaling_is_making()
     ensures { RescalingIsMaking }
 {}
-
-/// Sets every cell status to 0.
-fn clear(flags: &mut [u8])
-    ensures { flags.new ≡ replicate (length flags.old) 0 }
-{
-    for status in flags.iter_mut() {
-        *status = 0;
-    }
-}

@@ -4,7 +4,6 @@ ghost use Rattle.takers.specs.Bands.{Heights, banded, heights_of, joined_by};
 use super::Band;
 use crate::taker::{Taker, Tally};
 use crate::triangle::NumberedTriangle;
-use std::cmp::Ordering;
 
 /// Keeps the lowest and the highest corner of the triangles that come up. A NaN is passed over, and -0 is below +0.
 #[derive(Clone, Copy)]
@@ -58,12 +57,12 @@ fn joined(band: Option<Band>, y: f32) -> Option<Band>
             highest: y,
         });
     };
-    let lowest = if y.total_cmp(&b.lowest) == Ordering::Less {
+    let lowest = if y.total_cmp(&b.lowest).is_lt() {
         y
     } else {
         b.lowest
     };
-    let highest = if b.highest.total_cmp(&y) == Ordering::Less {
+    let highest = if b.highest.total_cmp(&y).is_lt() {
         y
     } else {
         b.highest

@@ -1,10 +1,9 @@
-ghost use Rattle.std.specs.Prelude.{◌≡◌, length, slice_index_or};
+ghost use Rattle.std.specs.Prelude.{◌≡◌, ◌<◌, length, slice_index_or};
 ghost use Rattle.utils.specs.Errors.{Answers};
 ghost use Rattle.utils.specs.Tables.{place, length_refusal, index_refusal, entry_refusal, written};
 
-use super::{Array2, flat};
+use super::Array2;
 use crate::error::HeightFieldError;
-use std::marker::PhantomData;
 
 impl<'d, T> Array2<'d, T> {
     /// Creates a new 2D array from the given dimensions and data.
@@ -17,19 +16,17 @@ impl<'d, T> Array2<'d, T> {
         if data.len() != len {
             return Err(HeightFieldError::LengthMismatch);
         }
-        Ok(Array2 {
-            nrows,
-            ncols,
-            data,
-            lent: PhantomData,
-        })
+        Ok(Array2 { nrows, ncols, data })
     }
 
     /// Computes the flat index for the given row and column.
     pub fn flat_index(&self, i: usize, j: usize) -> Result<usize, HeightFieldError>
-        ensures { let a = self.now in Answers result (index_refusal a.nrows a.ncols i j) (λ k. k ≡ place a.nrows i j) }
+        ensures { let a = self.now in Answers result (index_refusal a.nrows a.ncols i j) (λ k. (k ≡ place a.nrows i j) × (k < length a.«data».now)) }
     {
-        flat(self.nrows, self.ncols, i, j)
+        if i >= self.nrows || j >= self.ncols {
+            return Err(HeightFieldError::IndexOutOfRange);
+        }
+        Ok(i + j * self.nrows)
     }
 
     /// The entry at the given row and column.
@@ -38,12 +35,13 @@ impl<'d, T> Array2<'d, T> {
         T: Copy,
         ensures { let a = self.now in Answers result (index_refusal a.nrows a.ncols i j) (λ x. (d : T) → x ≡ slice_index_or a.«data».now (place a.nrows i j) d) }
     {
-        let k = flat(self.nrows, self.ncols, i, j)?;
+        let k = self.flat_index(i, j)?;
         let data = self.data;
         Ok(data[k])
     }
 
     /// Sets the entry at the given row and column of the 2D array with the given dimensions that lies in `data`.
+    // A table with a `&mut` field, tried, could not promise what its maker leaves of the slice that it refuses: that proof did not close.
     pub fn set(
         nrows: usize,
         ncols: usize,
@@ -57,8 +55,7 @@ impl<'d, T> Array2<'d, T> {
         ensures answer { Answers result (entry_refusal nrows ncols (length «data».old) i j) (λ _. Unit {0}) }
         ensures entries { «data».new ≡ written nrows ncols «data».old i j value }
     {
-        Array2::new(nrows, ncols, &*data)?;
-        let k = flat(nrows, ncols, i, j)?;
+        let k = Array2::new(nrows, ncols, &*data)?.flat_index(i, j)?;
         data[k] = value;
         Ok(())
     }

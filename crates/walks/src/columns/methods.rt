@@ -1,53 +1,54 @@
+ghost use Rattle.std.specs.Iterator.{at_most};
 ghost use Rattle.std.specs.Prelude.{◌≡◌, length};
 ghost use Rattle.utils.specs.Errors.{Answers};
-ghost use Rattle.utils.specs.Tables.{length_refusal};
 ghost use Rattle.shape.specs.Grids.{grid_of};
-ghost use Rattle.walks.specs.ColumnLists.{columns_from, column_list, slot_of};
-ghost use Rattle.walks.specs.ColumnWalks.{columns_left};
+ghost use Rattle.shape.specs.Tables.{table_refusal};
+ghost use Rattle.walks.specs.ColumnLists.{column_list};
+ghost use Rattle.walks.specs.Walks.{Gives};
 
 use super::HeightFieldTriangles;
 use super::steps::find;
-use crate::place::Place;
 use crate::walk::Walk;
 use shape::heightfield3::HeightField;
 use takers::triangle::NumberedTriangle;
-use utils::array2::Array2;
 use utils::error::HeightFieldError;
-
-impl<'g, 'd, 'f> HeightFieldTriangles<'g, 'd, 'f> {
-    /// A walk through all the triangles of a heightfield.
-    pub fn new(
-        grid: &'g HeightField<'d>,
-        flags: &'f [u8],
-    ) -> Result<HeightFieldTriangles<'g, 'd, 'f>, HeightFieldError>
-        ensures { let g = grid_of grid.now in Answers result (length_refusal g.rows g.columns (length flags.now)) (λ w. columns_from (grid_of w.grid.now) w.flags.now (slot_of (grid_of w.grid.now) w.place) ≡ column_list g flags.now) }
-    {
-        Array2::new(grid.nrows(), grid.ncols(), flags)?;
-        let place = Place {
-            i: 0,
-            j: 0,
-            left: true,
-        };
-        Ok(HeightFieldTriangles { grid, flags, place })
-    }
-}
 
 /// A walk through all the triangles of a heightfield.
 pub fn triangles<'g, 'd, 'f>(
     grid: &'g HeightField<'d>,
     flags: &'f [u8],
 ) -> Result<HeightFieldTriangles<'g, 'd, 'f>, HeightFieldError>
-    ensures { let g = grid_of grid.now in Answers result (length_refusal g.rows g.columns (length flags.now)) (λ w. columns_left w ≡ column_list g flags.now) }
+    ensures { let g = grid_of grid.now in Answers result (table_refusal g flags.now) (λ w. w ≡ column_list g flags.now) }
 {
-    HeightFieldTriangles::new(grid, flags)
+    Ok(HeightFieldTriangles {
+        field: grid.with_flags(flags)?,
+        next_cell: (0, 0),
+        pending: None,
+    })
+}
+
+impl Iterator for HeightFieldTriangles<'_, '_, '_> {
+    type Item = NumberedTriangle;
+
+    ghost next_gives = { λ w r after. Gives w r after };
+
+    ghost remaining = { λ w. at_most (length w) };
+
+    // Like `next` of the cursor of rings but for the search, which is handed a reach there: a step over both would take it as a closure.
+    fn next(&mut self) -> Option<NumberedTriangle> {
+        if let Some(triangle) = self.pending.take() {
+            return Some(triangle);
+        }
+        let (found, after) = find(&self.field, self.next_cell);
+        self.next_cell = after;
+        let standing = found?;
+        self.pending = standing.second;
+        Some(standing.first)
+    }
 }
 
 impl Walk for HeightFieldTriangles<'_, '_, '_> {
-    ghost rest = { λ w. columns_from (grid_of w.grid.now) w.flags.now (slot_of (grid_of w.grid.now) w.place) };
+    ghost rest = { λ w. w };
 
-    fn next(&mut self) -> Option<NumberedTriangle> {
-        let (found, place) = find(self.grid, self.flags, self.place);
-        self.place = place;
-        found
-    }
+    ghost gives = { λ w. (tt, tt, λ r after met. met) };
 }

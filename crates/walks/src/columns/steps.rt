@@ -1,84 +1,49 @@
-ghost use Rattle.std.specs.Prelude.{◌≡◌, ◌+◌, ◌<◌, ◌≤◌, length};
-ghost use Rattle.std.specs.Option.{option_to_list};
-ghost use Rattle.utils.specs.Tables.{length_refusal};
-ghost use Rattle.walks.specs.Walks.{Gives};
+ghost use Rattle.std.specs.Prelude.{◌≡◌, ◌+◌, ◌<◌, ◌≤◌, [], ◌++◌, is_none, true};
+ghost use Rattle.shape.specs.Flagged.{grid_in, flags_in};
 ghost use Rattle.shape.specs.Grids.{grid_of};
-ghost use Rattle.walks.specs.ColumnLists.{drawn_at, columns_from, slot_of};
+ghost use Rattle.walks.specs.ColumnLists.{columns_from, first_slot};
+ghost use Rattle.walks.specs.Standing.{standing_list};
 
-use crate::place::Place;
-use search::triangles::Triangles;
+use crate::numbered::standing_at;
+use crate::standing::Standing;
 use shape::heightfield3::HeightField;
-use takers::triangle::NumberedTriangle;
+use shape::heightfield3::flagged::FlaggedHeightField;
 
-/// The place after another, in a grid with that many rows.
-fn after(grid: &HeightField<'_>, place: Place) -> Place
-    requires { (place.i < (grid_of grid.now).rows) × (place.j < (grid_of grid.now).columns) }
-    ensures next { let g = grid_of grid.now in slot_of g result ≡ slot_of g place + 1 }
-    ensures rows { result.i < (grid_of grid.now).rows }
-    ensures columns { result.j ≤ (grid_of grid.now).columns }
+/// The cell after another: in the next row, or at the top of the next column.
+fn after(grid: &HeightField<'_>, cell: (usize, usize)) -> (usize, usize)
+    requires { (cell.0 < (grid_of grid.now).rows) × (cell.1 < (grid_of grid.now).columns) }
+    ensures next { let g = grid_of grid.now in first_slot g result.0 result.1 ≡ first_slot g cell.0 cell.1 + 2 }
+    ensures row { result.0 < (grid_of grid.now).rows }
+    ensures column { result.1 ≤ (grid_of grid.now).columns }
 {
-    if place.left {
-        return Place {
-            i: place.i,
-            j: place.j,
-            left: false,
-        };
-    }
-    if place.i + 1 < grid.nrows() {
-        return Place {
-            i: place.i + 1,
-            j: place.j,
-            left: true,
-        };
-    }
-    Place {
-        i: 0,
-        j: place.j + 1,
-        left: true,
+    let (i, j) = cell;
+    if i + 1 < grid.nrows() {
+        (i + 1, j)
+    } else {
+        (0, j + 1)
     }
 }
 
-/// The left or right triangle of a cell with its number, if it stands.
-fn numbered(
-    grid: &HeightField<'_>,
-    flags: &[u8],
-    i: usize,
-    j: usize,
-    left: bool,
-) -> Option<NumberedTriangle>
-    requires { length_refusal (grid_of grid.now).rows (grid_of grid.now).columns (length flags.now) ≡ 0 }
-    ensures { option_to_list result ≡ drawn_at (grid_of grid.now) flags.now i j left }
-{
-    let Ok((first, second)) = grid.triangles_at(flags, i, j) else {
-        return None;
-    };
-    let Ok(id) = grid.size().triangle_id(i, j, left) else {
-        return None;
-    };
-    let Some(triangle) = (if left { first } else { second }) else {
-        return None;
-    };
-    Some(NumberedTriangle { id, triangle })
-}
-
-/// The first standing triangle from a place on, and the place after it.
+/// The standing triangles of the first cell that has any, from a cell on, and the cell after it.
+// A search goes on in the middle of a column, where no nested `for` begins, and one counter for both would divide at each cell.
 pub(crate) fn find(
-    grid: &HeightField<'_>,
-    flags: &[u8],
-    start: Place,
-) -> (Option<NumberedTriangle>, Place)
-    requires { (length_refusal (grid_of grid.now).rows (grid_of grid.now).columns (length flags.now) ≡ 0) × ((start.i < (grid_of grid.now).rows) × (start.j ≤ (grid_of grid.now).columns)) }
-    ensures gives { let g = grid_of grid.now in Gives (columns_from g flags.now (slot_of g start)) result.0 (columns_from g flags.now (slot_of g result.1)) }
-    ensures rows { result.1.i < (grid_of grid.now).rows }
-    ensures columns { result.1.j ≤ (grid_of grid.now).columns }
+    field: &FlaggedHeightField<'_, '_, '_>,
+    start: (usize, usize),
+) -> (Option<Standing>, (usize, usize))
+    requires { let g = grid_in field.now in (start.0 < g.rows) × (start.1 ≤ g.columns) }
+    ensures found { let g = grid_in field.now in let flags = (flags_in field.now) in columns_from g flags (first_slot g start.0 start.1) ≡ standing_list result.0 ++ columns_from g flags (first_slot g result.1.0 result.1.1) }
+    ensures none { let g = grid_in field.now in is_none result.0 ≡ true → columns_from g (flags_in field.now) (first_slot g result.1.0 result.1.1) ≡ [] }
+    ensures row { result.1.0 < (grid_in field.now).rows }
+    ensures column { result.1.1 ≤ (grid_in field.now).columns }
 {
-    let mut place = start;
-    while place.j < grid.ncols() {
-        let found = numbered(grid, flags, place.i, place.j, place.left);
-        place = after(grid, place);
+    let grid = field.grid();
+    let mut cell = start;
+    while cell.1 < grid.ncols() {
+        let found = standing_at(field, cell.0, cell.1);
+        cell = after(grid, cell);
         if found.is_some() {
-            return (found, place);
+            return (found, cell);
         }
     }
-    (None, place)
+    (None, cell)
 }

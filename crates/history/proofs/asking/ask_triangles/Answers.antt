@@ -2,7 +2,6 @@ use Rattle.std.proofs.Common.{◌≡◌, suc, ◌+◌, ◌-◌, ◌∷◌, lengt
 use Rattle.history.proofs.Asked.{walk_asked, nothing_left, asked_added, where_it_fits}
 use Rattle.history.proofs.asking.ask_triangles.Goals as goal
 use Rattle.shape.specs.Grids.{grid_of}
-use Rattle.walks.specs.ColumnWalks.{columns_left}
 
 pub loop-given-init : goal.loop-given-init
 loop-given-init g c = let all : c.args.times - 0 ≡ c.args.times = omega arith in (rw all refl, rw all (omega arith), refl, omega arith)
@@ -10,10 +9,10 @@ loop-given-init g c = let all : c.args.times - 0 ≡ c.args.times = omega arith 
 pub loop-given-preserved : goal.loop-given-preserved
 loop-given-preserved g c =
     let more : c.args.times - c.loop-given.given ≡ suc (c.args.times - (c.loop-given.given + 1)) = omega arith in
-    let asked = walk_asked (columns_left c.loop-given.walk) (columns_left c.next.new.self) (Some c.in-Some.triangle)
-    (c.args.times - (c.loop-given.given + 1)) c.in-Some.ensures in
-    let first : take (c.args.times - c.loop-given.given) (columns_left c.loop-given.walk)
-    ≡ c.in-Some.triangle ∷ take (c.args.times - (c.loop-given.given + 1)) (columns_left c.next.new.self) =
+    let asked = walk_asked c.loop-given.walk c.next.new.self (Some c.in-Some.triangle)
+    (c.args.times - (c.loop-given.given + 1)) c.in-Some.ensures.steps in
+    let first : take (c.args.times - c.loop-given.given) c.loop-given.walk
+    ≡ c.in-Some.triangle ∷ take (c.args.times - (c.loop-given.given + 1)) c.next.new.self =
     rw more asked in (
       asked_added g.T.Taker.adds _ _ (Some c.in-Some.triangle) first _ _ c.add.ensures.added ∙ c.loop-given.invariant.0,
       omega (arith, c.loop-given.invariant.1, ap length first),
@@ -24,8 +23,8 @@ loop-given-preserved g c =
 pub returns-in_default : goal.returns-in_default
 returns-in_default g c =
     let opened = c.in_ok-walk.ensures in
-    let none = nothing_left (columns_left c.loop-given.walk) (columns_left c.next.new.self) c.next.result
-    (c.args.times - c.loop-given.given) c.next.ensures c.in_default.is in
+    let none = nothing_left c.loop-given.walk c.next.new.self c.next.result
+    (c.args.times - c.loop-given.given) c.next.ensures.steps c.in_default.is in
     let total = rw none at c.loop-given.invariant.0 in
     let count = rw none at c.loop-given.invariant.1 in
     let all = ap (take c.args.times) opened.1 in

@@ -1,5 +1,6 @@
-use Rattle.std.proofs.Common.{length}
-use Rattle.history.proofs.Performing.{since_making, cleared_start}
+use Rattle.std.proofs.Common.{length, refl}
+use Rattle.std.proofs.lemmas.Result.{err_from_is_err_and}
+use Rattle.history.proofs.Performing.{since_making, cleared_start, refused_leaves}
 use Rattle.history.proofs.replay.make_and_perform.Goals as goal
 use Rattle.history.specs.Past.{Making}
 use Rattle.shape.specs.Grids.{grid_of}
@@ -28,3 +29,8 @@ returns g c =
       calls = c.perform_all.ensures.calls;
       lender = c.perform_all.ensures.lender;
     }
+
+pub returns-in_err-grid-clause-refused : goal.returns-in_err-grid-clause-refused
+returns-in_err-grid-clause-refused g c =
+    let p = err_from_is_err_and c.from_residual.result c.from_residual.ensures.1 in
+    rw p.1 (refused_leaves _ _ _ _ _ c.in_err-grid.ensures.answer c.in_err-grid.ensures.cleared, refl, refl)

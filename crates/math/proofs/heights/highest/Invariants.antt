@@ -1,6 +1,5 @@
-use Rattle.std.proofs.Common.{◌≡◌, take}
-use Rattle.math.specs.Heights.{highest_of}
+use lib.Ieee.{lt}
 use Rattle.math.proofs.heights.highest.Given as goal
 
-abbrev pub invariant-loop-y : goal.invariant-loop-y
-invariant-loop-y l = l.high ≡ highest_of (take l.y-index l.heights)
+abbrev pub ghost-first : goal.ghost-first
+ghost-first a = λ x y. lt y x

@@ -1,16 +1,24 @@
-use Rattle.rings.proofs.CursorSteps.{waiting_first, found_next}
+use Rattle.std.proofs.Common.{◌≡◌, None, sym, ◌∙◌}
+use Rattle.rings.proofs.CursorSteps.{found_next}
 use Rattle.rings.proofs.radial.HeightFieldRadialTriangles.next.Goals as goal
 use Rattle.shape.specs.Grids.{grid_of}
 
-pub returns-in-Some : goal.returns-in-Some
-returns-in-Some c =
-    let w = c.args.self.now in
-    waiting_first (grid_of w.grid.now) w.flags.now w.center.0 w.center.1 c.args.reach w.place.ring w.pending
-    c.in-Some.triangle _ c.in-Some.is
+pub returns-in_err-standing : goal.returns-in_err-standing
+returns-in_err-standing c =
+    let w = c.self.inside in
+    let r = w.rings in
+    let none_waits : w.pending ≡ None = sym c.take.ensures.value ∙ c.in_default.is in
+    let answer = rw c.in_err-standing.was at c.find-found.ensures.answer in
+    rw (← c.self.view_is, c.take.ensures.after, c.from_residual.ensures)
+    (found_next (grid_of r.field.grid.now) r.field.statuses.data.now r.center.0 r.center.1 c.args.reach w.place.ring
+    c.last_ring-last.result c.find-found.result.1.ring w.pending None _ _ none_waits c.last_ring-last.ensures.last answer)
 
 pub returns : goal.returns
 returns c =
-    let w = c.args.self.now in
-    found_next (grid_of w.grid.now) w.flags.now w.center.0 w.center.1 c.args.reach w.place.ring
-    c.last_ring-last.result c.find-first.result.2.ring w.pending c.find-first.result.0 _ _ c.in_default.is
-    c.last_ring-last.ensures c.find-first.ensures.answer
+    let w = c.self.inside in
+    let r = w.rings in
+    let none_waits : w.pending ≡ None = sym c.take.ensures.value ∙ c.in_default.is in
+    let answer = rw c.in_ok-standing.was at c.find-found.ensures.answer in
+    rw (← c.self.view_is)
+    (found_next (grid_of r.field.grid.now) r.field.statuses.data.now r.center.0 r.center.1 c.args.reach w.place.ring
+    c.last_ring-last.result c.find-found.result.1.ring w.pending _ _ _ none_waits c.last_ring-last.ensures.last answer)

@@ -1,14 +1,15 @@
 use Rattle.std.proofs.Common.{◌≡◌, ◌-◌, ◌<◌, ◌≤◌}
 use Rattle.shape.specs.Grids.{grid_of}
-use Rattle.walks.specs.ColumnLists.{columns_from, slot_of, slots}
+use Rattle.walks.specs.ColumnLists.{columns_from, first_slot, slots}
 use Rattle.walks.proofs.columns.steps.find.Given as goal
 
 -- what is still to come is what was to come at the start
-abbrev pub invariant-loop-place : goal.invariant-loop-place
-invariant-loop-place l =
-    let g = grid_of l.grid in
-    (columns_from g l.flags (slot_of g l.place) ≡ columns_from g l.flags (slot_of g l.initial.place))
-    × (l.place.i < g.rows) × (l.place.j ≤ g.columns)
+abbrev pub invariant-loop-cell : goal.invariant-loop-cell
+invariant-loop-cell l =
+    let g = grid_of l.field.grid.now in
+    let flags = l.field.statuses.data.now in
+    (columns_from g flags (first_slot g l.cell.0 l.cell.1) ≡ columns_from g flags (first_slot g l.fn.start.0 l.fn.start.1))
+    × (l.cell.0 < g.rows) × (l.cell.1 ≤ g.columns)
 
-abbrev pub decreases-loop-place : goal.decreases-loop-place
-decreases-loop-place l = slots (grid_of l.grid) - slot_of (grid_of l.grid) l.place
+abbrev pub decreases-loop-cell : goal.decreases-loop-cell
+decreases-loop-cell l = let g = grid_of l.field.grid.now in slots g - first_slot g l.cell.0 l.cell.1
