@@ -49,11 +49,6 @@ module _ {X : Type 0} where
   walk_asked [] ys r n (none, rest) = rw (none, rest) (sym (take_of_none n))
   walk_asked (x ∷ xs) ys r n (some, rest) = rw (some, rest) refl
 
-  -- where a walk gives none, none is left
-  pub nothing_left : (xs ys : List X) (r : Option X) (n : ℕ) → Gives xs r ys → r ≡ None → take n xs ≡ []
-  nothing_left [] ys r n gives none = take_of_none n
-  nothing_left (x ∷ xs) ys r n (some, rest) none = let z : ◌≡◌ {A = ℕ} 0 1 = cc in absurd (omega arith)
-
   -- what was given counts, and what is left counts less
   module _ {S : Type 0} (adds : S → X → S) (left rest : List X) (r : Option X) (asked : left ≡ option_to_list r ++ rest) where
     pub asked_added : (s s' : S) → s' ≡ fold adds s (option_to_list r) → fold adds s' rest ≡ fold adds s left

@@ -1,9 +1,8 @@
 -- From what a call's contract says to a step of the past.
 -- Assumes nothing.
-use Rattle.std.proofs.Common.{◌≡◌, ℕ, List, fold, Option, Result, sym, ap, ◌∙◌, subst}
+use Rattle.std.proofs.Common.{◌≡◌, ℕ, List, Option, Result, sym, subst}
 use Rattle.cells.specs.declared.status.HeightFieldCellStatus.{HeightFieldCellStatus}
 use Rattle.history.specs.Past.{State, Step, answered, sets_status, rescales, asks_cell, asks_box}
-use Rattle.history.specs.Runs.{handed}
 use Rattle.history.specs.declared.call.Answer.{Answer}
 use Rattle.history.specs.declared.call.Answer.TheVariants.{Done, Cell, BoundingBox}
 use Rattle.history.specs.declared.call.Call.{Call}
@@ -14,18 +13,12 @@ use Rattle.math.specs.declared.vector.Vector.{Vector}
 use Rattle.points.specs.Points.{cell_at}
 use Rattle.shape.specs.Grids.{Grid, rescaling_leaves}
 use Rattle.shape.specs.Tables.{setting_refusal, setting_leaves}
-use Rattle.takers.specs.declared.triangle.NumberedTriangle.{NumberedTriangle}
 use Rattle.utils.specs.Errors.{Answers}
 use Rattle.utils.specs.declared.error.HeightFieldError.{HeightFieldError}
 
 -- a call that is known to be another
 pub step_by : {s s' : State} {r : Answer} (call other : Call) → call ≡ other → Step s (answered other r) s' → Step s (answered call r) s'
 step_by {s} {s'} {r} call other e = subst (λ c. Step s (answered c r) s') (sym e)
-
-pub handed_by :
-    {Total : Type 0} (adds : Total → NumberedTriangle → Total) (s : State) (first last : Total) (call other : Call) → call ≡ other
-    → last ≡ fold adds first (handed s other) → last ≡ fold adds first (handed s call)
-handed_by adds s first last call other e added = added ∙ ap (λ c. fold adds first (handed s c)) (sym e)
 
 module _ (s : State) where
   pub status_set :

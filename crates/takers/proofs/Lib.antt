@@ -1,3 +1,2 @@
 pub mod BandOrder
-pub mod Orders
 pub mod TotalOrder

@@ -17,17 +17,14 @@ loop-event-preserved g c = (
   c.perform.ensures.lender ∙ c.loop-event.invariant.2,
 )
 
-pub returns : goal.returns
-returns g c =
+pub returns-clause-law : goal.returns-clause-law
+returns-clause-law g c =
     let adds = g.T.Taker.adds in
     let start = state_of c.args.grid.now c.args.flags.now in
     let end = state_of c.loop-event.grid c.loop-event.flags in
     let first = g.T.Taker.total c.args.tally.now in
     let last = g.T.Taker.total c.loop-event.tally in
-    let all = subst (λ es. Performed adds es start end first last) (take_all c.loop-event.event-index c.loop-event.log (omega arith)) c.loop-event.invariant.0 in
-    record {
-      performed = all;
-      calls = c.loop-event.invariant.1;
-      law = performed_keeps_law adds start first c.any_order.ensures c.loop-event.log end last all;
-      lender = c.loop-event.invariant.2;
-    }
+    let all =
+    subst (λ es. Performed adds es start end first last) (take_all c.loop-event.event-index c.loop-event.log (omega arith))
+    c.loop-event.invariant.0 in
+    performed_keeps_law adds start first c.any_order.ensures c.loop-event.log end last all

@@ -1,14 +1,8 @@
-use Rattle.std.proofs.Common.{sym, refl, ◌∙◌}
+use Rattle.std.proofs.Common.{sym, ◌∙◌}
 use Rattle.search.specs.BoxLists.{box_cell, rows_between}
 use Rattle.shape.specs.Grids.{grid_of}
 use Rattle.search.proofs.Handing.{handed_more, handed_all}
 use Rattle.search.proofs.boxes.map_cells.Goals as goal
-
-pub loop-j-init : goal.loop-j-init
-loop-j-init g c = (refl, refl)
-
-pub loop-i-init : goal.loop-i-init
-loop-i-init g c = (refl, refl)
 
 pub loop-i-preserved : goal.loop-i-preserved
 loop-i-preserved g c = (
@@ -29,13 +23,3 @@ loop-j-preserved g c =
           c.loop-j.j c.args.columns.end (t.total c.loop-j.f) (t.total c.loop-i.f) c.loop-j-test.true column ∙ c.loop-j.invariant.0,
       c.loop-i.invariant.1 ∙ c.loop-j.invariant.1,
     )
-
-pub returns : goal.returns
-returns g c =
-    record {
-      added =
-          sym (handed_all g.T.Taker.adds
-          (rows_between (grid_of c.args.field.now.grid.now) c.args.field.now.statuses.data.now c.args.aabb.now c.args.rows.start c.args.rows.end)
-          c.loop-j.j c.args.columns.end (g.T.Taker.total c.loop-j.f) c.loop-j-test.false) ∙ c.loop-j.invariant.0;
-      lender = c.loop-j.invariant.1;
-    }
