@@ -4,6 +4,7 @@
 ghost use Rattle.std.specs.Prelude.{◌≡◌, [], map, IfOk};
 ghost use Rattle.rings.specs.RingCursors.{to_come_within};
 
+use arrayvec::ArrayVec;
 use cells::status::HeightFieldCellStatus;
 use hull_scan::{CELLS, COLUMNS, HEIGHTS, ROWS, SCALE};
 use math::vector::Vector;
@@ -17,6 +18,9 @@ use utils::error::HeightFieldError;
 use walks::walk::Walk;
 
 mod call_log;
+
+/// How many triangles the panel has.
+const TRIANGLES: usize = 2 * CELLS;
 
 fn main(rt: HostRuntime) -> anyhow::Result<()> {
     let mut flags = [0xff; CELLS];
@@ -57,8 +61,8 @@ fn blade(rt: &HostRuntime, grid: &HeightField<'_>, flags: &[u8]) -> anyhow::Resu
     Ok(())
 }
 
-/// Lists the numbers of all the triangles of a walk.
-fn ids_of<W: Walk>(alloc: Global, walk: W) -> Result<Vec<u32>, AllocError>
+/// Lists the numbers of all the triangles of a walk. It takes no memory, and fails only at a walk of more triangles than the panel has.
+fn ids_of<W: Walk>(alloc: Global, walk: W) -> Result<ArrayVec<u32, TRIANGLES>, AllocError>
     ensures { IfOk result (λ ids. ids.items ≡ map (λ t. t.id) (W.rest walk)) }
 {
     walk.map(|triangle| triangle.id).collect(alloc)

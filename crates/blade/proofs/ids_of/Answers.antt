@@ -1,5 +1,6 @@
 use Rattle.std.proofs.Common.{rules, refl}
-use Rattle.std.proofs.lemmas.Iterator.{YieldsList, YieldsList-from_map, items_from_collect}
+use Rattle.std.proofs.lemmas.Iterator.{YieldsList, YieldsList-from_map}
+use Rattle.blade.proofs.Listing.{listed}
 use Rattle.blade.proofs.ids_of.Goals as goal
 use Rattle.takers.specs.declared.triangle.NumberedTriangle.{NumberedTriangle}
 use Rattle.walks.proofs.Progress.{walk_yields}
@@ -13,5 +14,5 @@ returns g c =
           rw c.map.ensures.source
           (walk_yields g.W.Iterator.next_gives g.W.Walk.rest (λ s. (g.met.W.Walk.gives s).2) list c.args.walk refl);
     } in
-    items_from_collect c.collect.result c.collect.ensures.ran
+    listed (λ ids. ids.items) c.collect.result c.collect.ensures.ran
     (YieldsList-from_map _ (λ t. t.id) walk c.map.ensures.closure (λ x r q k. search rules))
