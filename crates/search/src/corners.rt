@@ -28,6 +28,8 @@ impl CellCorners {
     }
 
     /// The left or right triangle of the cell, with or without the zigzag pattern.
+    // In place, for where the side is known few of the choices between corners are left.
+    #[inline(always)]
     pub fn triangle(&self, zigzag: bool, left: bool) -> Triangle
         ensures { result ≡ triangle_of self.now zigzag left }
     {

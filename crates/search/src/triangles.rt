@@ -47,6 +47,9 @@ impl Triangles for HeightField<'_> {
         let Ok(cell) = self.with_flags(flags)?.cell(i, j) else {
             return Ok((None, None));
         };
+        if cell.pattern(true).is_none() && cell.pattern(false).is_none() {
+            return Ok((None, None));
+        }
         let corners = corners_at(&cell);
         let left = drawn(&cell, &corners, true);
         let right = drawn(&cell, &corners, false);
@@ -58,6 +61,9 @@ impl Triangles for HeightField<'_> {
         let Ok(cell) = self.with_flags(flags)?.cell(i, j) else {
             return Ok(None);
         };
+        if cell.pattern(left).is_none() {
+            return Ok(None);
+        }
         Ok(drawn(&cell, &corners_at(&cell), left))
     }
 }

@@ -35,6 +35,8 @@ impl Iterator for HeightFieldTriangles<'_, '_, '_> {
     ghost remaining = { λ w. at_most (length w) };
 
     // Like `next` of the cursor of rings but for the search, which is handed a reach there: a step over both would take it as a closure.
+    // It is inlined where the walk is emptied, so that a taker that reads no corner has none drawn.
+    #[inline(always)]
     fn next(&mut self) -> Option<NumberedTriangle> {
         if let Some(triangle) = self.pending.take() {
             return Some(triangle);
