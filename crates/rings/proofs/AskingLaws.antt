@@ -1,6 +1,6 @@
 -- Asking a walk that goes ring by ring: the answer is the first of what is to come, and leaves the rest to come.
 -- Assumes nothing.
-use Rattle.std.proofs.Common.{◌≡◌, ℕ, zero, suc, ◌+◌, ◌-◌, ◌≤◌, List, [], ◌∷◌, ◌++◌, None, sym, refl, ◌∙◌, inl, inr, arith}
+use Rattle.std.proofs.Common.{◌≡◌, ℕ, zero, suc, ◌+◌, ◌-◌, ◌≤◌, max, List, [], ◌∷◌, ◌++◌, None, sym, refl, ◌∙◌, inl, inr, arith}
 use Rattle.rings.specs.Asking.{asked, to_come}
 use Rattle.search.specs.BoxLists.{from_on}
 use Rattle.std.proofs.lemmas.Bool.{cases_lt}
@@ -52,6 +52,13 @@ module _ {X : Type 0} (ring : ℕ → List X) where
   none_of m (suc n) k [] h =
       none_of m n (k + 1) (ring (k + 1)) h ∙ skips k m (nothing_left n (k + 1) (ring (k + 1)) h)
 
+  within_of : (n k : ℕ) (xs : List X) → (k ≤ (asked ring n k xs).1) × ((asked ring n k xs).1 ≤ k + n)
+  within_of n k (x ∷ xs) = (omega arith, omega arith)
+  within_of zero k [] = (omega arith, omega arith)
+  within_of (suc n) k [] =
+      let w = within_of n (k + 1) (ring (k + 1)) in
+      (omega arith, omega arith)
+
   -- ---- the rings up to the last one may be entered
 
   module _ (last k : ℕ) (xs : List X) where
@@ -73,6 +80,10 @@ module _ {X : Type 0} (ring : ℕ → List X) where
         (m : ℕ) → (asked ring (last - k) k xs).0 ≡ None
         → to_come ring (asked ring (last - k) k xs).1 (asked ring (last - k) k xs).2 m ≡ to_come ring k xs m
     none_leaves_all m = none_of m (last - k) k xs
+
+    -- the ring entered last is no nearer than before, and no farther than that or the last one
+    pub entered_within : (k ≤ (asked ring (last - k) k xs).1) × ((asked ring (last - k) k xs).1 ≤ max k last)
+    entered_within = let w = within_of (last - k) k xs in (w.0, omega arith)
 
   -- from ring 0 on all rings are to come
   pub all_to_come : (last : ℕ) → to_come ring 0 (ring 0) last ≡ from_on ring 0 (last + 1 - 0)
