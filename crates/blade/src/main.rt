@@ -1,7 +1,7 @@
 //! A panel walked around the blade, ring by ring, and a log of calls performed on it.
 #![tactic(auto)]
 
-ghost use Rattle.std.specs.Prelude.{◌≡◌, [], map, IfOk};
+ghost use Rattle.std.specs.Prelude.{◌≡◌, ◌<◌, [], length, map, MatchResult};
 ghost use Rattle.rings.specs.RingCursors.{to_come_within};
 
 use arrayvec::ArrayVec;
@@ -63,9 +63,9 @@ fn blade(rt: &HostRuntime, grid: &HeightField<'_>, flags: &[u8]) -> anyhow::Resu
 
 /// Lists the numbers of all the triangles of a walk. It takes no memory, and fails only at a walk of more triangles than the panel has.
 fn ids_of<W: Walk>(alloc: Global, walk: W) -> Result<ArrayVec<u32, TRIANGLES>, AllocError>
-    ensures { IfOk result (λ ids. ids.items ≡ map (λ t. t.id) (W.rest walk)) }
+    ensures { MatchResult result (λ ids. ids.items ≡ map (λ t. t.id) (W.rest walk)) (λ _. 24 < length (W.rest walk)) }
 {
-    walk.map(|triangle| triangle.id).collect(alloc)
+    ArrayVec::from_iter(alloc, walk.map(|triangle| triangle.id))
 }
 
 /// Asks a walk with one reach until it gives no more.
